@@ -14,8 +14,8 @@ use Rattle.av_values.specs.Loops.{index_type, step}
 use Rattle.av_values.specs.Nodes.{entry}
 use Rattle.av_form_laws.specs.Attributes.{Applied, alias, applied_attr, applied_in, first_applied, written_map, written_set}
 use Rattle.av_form_laws.specs.Items.{applied_entry}
-use Rattle.av_form_laws.specs.Loops.{first_step, sizes_entry, step_entry, step_in}
-use Rattle.av_form_laws.specs.Properties.{first_numbers, numbers_in}
+use Rattle.av_form_laws.specs.Loops.{first_step, step_entry, step_in}
+use Rattle.av_values.specs.Gifts.{first_numbers, numbers_in, sizes_entry}
 
 pub value-of : (name : List ℕ) (x : Attr) → (out-Named (entry name x)).value ≡ x
 value-of name x = ap (λ (e : Named-F Attr Named). e.value) (out-roll-Named (record { name = name; value = x }))

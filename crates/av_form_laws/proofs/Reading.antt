@@ -19,15 +19,14 @@ use Rattle.av_values.specs.declared.value.MapUse.{MapUse}
 use Rattle.av_dialects.specs.declared.item.Results.TheVariants as results_of
 use Rattle.av_dialects.specs.declared.item.Typing.TheVariants as typing
 use Rattle.av_dialects.specs.Rows.{forms, names, results}
-use Rattle.av_form_laws.specs.Items.{applied_entry, with_last}
-use Rattle.av_form_laws.specs.Lines.{Line, all_written, unwritten}
-use Rattle.av_form_laws.specs.Loops.{Carrying, args_in, args_of, inits_of, region_of, sizes_entry, types_of, with_args_in}
+use Rattle.av_form_laws.specs.Items.{applied_entry}
+use Rattle.av_form_laws.specs.Loops.{Carrying, args_of, inits_of, types_of}
 use Rattle.av_form_laws.specs.Reading.{BoundReading, BranchReading, CountedReading, FormsOfRows, LoadReading, LoopReading, MapReading, ReadingLaw, StoreReading, branch_form, carried_of, counted_form, load_form, loop_form, pair_of, store_form, use_of}
-use Rattle.av_form_laws.specs.Properties.{first_numbers}
 use Rattle.av_form_laws.specs.Rows.{Head, blank, made}
 use Rattle.av_form_laws.specs.Subscripts.{numbered_map, numbered_values}
 use Rattle.av_form_laws.proofs.Entries.{sizes-first}
 use Rattle.av_form_laws.proofs.Regions.{last-types, line-same}
+use Rattle.av_values.specs.Gifts.{Line, all_written, args_in, first_numbers, region_of, sizes_entry, unwritten, with_args_in, with_last}
 
 forms-of-rows : FormsOfRows
 unfolding names results forms

@@ -45,16 +45,26 @@ place_of (slot.Input i) count = i
 place_of (slot.LastInput i) count = count - suc i
 place_of slot.Output count = 0
 
--- with this type at a slot, if there is such a slot
-abbrev pub with_type_at : Slot → TypeText → Line → Line
-with_type_at slot.Output t n = record n { out_types = slice_set n.out_types 0 (Some t) }
-with_type_at s t n = record n { in_types = slice_set n.in_types (place_of s (length n.in_types)) (Some t) }
+-- the types among which a slot is
+abbrev pub types_around : Slot → Line → List (Option TypeText)
+types_around (slot.Input _) n = n.in_types
+types_around (slot.LastInput _) n = n.in_types
+types_around slot.Output n = n.out_types
 
--- with it at all these slots
+abbrev pub with_types_around : Slot → Line → List (Option TypeText) → Line
+with_types_around (slot.Input _) n ts = record n { in_types = ts }
+with_types_around (slot.LastInput _) n ts = record n { in_types = ts }
+with_types_around slot.Output n ts = record n { out_types = ts }
+
+-- with another type at a slot, if there is such a slot
+abbrev pub put_at_slot : Slot → Option TypeText → Line → Line
+put_at_slot s t n = with_types_around s n (slice_set (types_around s n) (place_of s (length (types_around s n))) t)
+
+-- with this type at all these slots
 abbrev pub filled : Slots → TypeText → Line → Line
-filled (slots.One a) t n = with_type_at a t n
-filled (slots.Two a b) t n = with_type_at a t (with_type_at b t n)
-filled (slots.Three a b c) t n = with_type_at a t (with_type_at b t (with_type_at c t n))
+filled (slots.One a) t n = put_at_slot a (Some t) n
+filled (slots.Two a b) t n = put_at_slot a (Some t) (put_at_slot b (Some t) n)
+filled (slots.Three a b c) t n = put_at_slot a (Some t) (put_at_slot b (Some t) (put_at_slot c (Some t) n))
 
 -- ---- bounds
 -- how many operands the bounds have, and how many are behind them: the last of the properties
@@ -81,10 +91,19 @@ abbrev pub with_upper : Attr → ℕ → ℕ → List Named → List Named
 with_upper map size behind es = entry (codes "upperBoundMap") map ∷ (es ++ sizes_entry (pos size ∷ pos behind ∷ []) ∷ [])
 
 -- ---- regions
--- with these arguments of the first region before its own
+-- the arguments of the first region
+abbrev pub args_in : List Body → List BodyArg
+args_in [] = []
+args_in (body ∷ bodies) = (out-Body body).args
+
+-- the same with other arguments
+abbrev pub with_args_in : List BodyArg → List Body → List Body
+with_args_in args [] = []
+with_args_in args (body ∷ bodies) = roll-Body (record (out-Body body) { args = args }) ∷ bodies
+
+-- with these arguments before its own
 abbrev pub with_args_before : List BodyArg → List Body → List Body
-with_args_before args [] = []
-with_args_before args (body ∷ bodies) = roll-Body (record (out-Body body) { args = args ++ (out-Body body).args }) ∷ bodies
+with_args_before args bodies = with_args_in (args ++ args_in bodies) bodies
 
 -- what ends a region of an operation of this name where none is written
 abbrev pub end_of : List ℕ → List ℕ

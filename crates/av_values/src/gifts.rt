@@ -3,7 +3,7 @@
 ghost use Rattle.std.specs.Prelude.{◌≡◌, ◌++◌, ◌∷◌, [], length, pos, slice_set, Some, IfErr, IfOk, OnOk};
 ghost use Rattle.av_tree.specs.declared.attribute.Attr.{out-Attr};
 ghost use Rattle.av_tree.specs.declared.node.Node.{out-Node, roll-Node};
-ghost use Rattle.av_values.specs.Gifts.{changed, front, end_of as the_end_of, filled, given, last_numbers as the_last_numbers, numbers_in as the_numbers_in, region_of as the_region_of, sizes_entry as the_sizes_entry, with_args_before, with_last, with_lower, with_type_at, with_upper};
+ghost use Rattle.av_values.specs.Gifts.{changed, front, end_of as the_end_of, filled, given, last_numbers as the_last_numbers, numbers_in as the_numbers_in, region_of as the_region_of, sizes_entry as the_sizes_entry, with_args_before, put_at_slot, with_last, with_lower, with_upper};
 ghost use Rattle.av_values.specs.Nodes.{entry};
 
 use crate::loops::{loop_variable, with_terminator};
@@ -123,7 +123,7 @@ fn fill(alloc: Global, node: &mut Node, slots: Slots, ty: TypeText) -> Result<()
 }
 
 fn put_type(node: &mut Node, slot: Slot, ty: TypeText)
-    ensures { node.new ≡ roll-Node (with_type_at slot ty (out-Node node.old)) }
+    ensures { node.new ≡ roll-Node (put_at_slot slot (Some ty) (out-Node node.old)) }
 {
     match slot {
         Slot::Output => set_type(&mut node.out_types, 0, ty),
