@@ -1,9 +1,9 @@
 //! What an item of a form gives to an operation. Items give from the last to the first.
 
-ghost use Rattle.std.specs.Prelude.{◌≡◌, ◌++◌, ◌∷◌, [], length, pos, slice_set, Some, IfErr, IfOk, OnOk};
+ghost use Rattle.std.specs.Prelude.{◌≡◌, ◌++◌, ◌∷◌, [], pos, slice_set, Some, IfErr, IfOk, OnOk};
 ghost use Rattle.av_tree.specs.declared.attribute.Attr.{out-Attr};
 ghost use Rattle.av_tree.specs.declared.node.Node.{out-Node, roll-Node};
-ghost use Rattle.av_values.specs.Gifts.{changed, front, end_of as the_end_of, filled, given, last_numbers as the_last_numbers, numbers_in as the_numbers_in, region_of as the_region_of, sizes_entry as the_sizes_entry, with_args_before, put_at_slot, with_last, with_lower, with_upper};
+ghost use Rattle.av_values.specs.Gifts.{changed, front, end_of as the_end_of, filled, given, last_numbers as the_last_numbers, numbers_in as the_numbers_in, region_of as the_region_of, sizes_entry as the_sizes_entry, with_args_before, put_at_slot, with_last};
 ghost use Rattle.av_values.specs.Nodes.{entry};
 
 use crate::loops::{loop_variable, with_terminator};
