@@ -1,11 +1,8 @@
 -- An operation without its regions' insides, and its types one by one.
-use Rattle.std.specs.Prelude.{ℕ, ◌-◌, suc, List, [], ◌∷◌, map, length, take, drop, Option, None, Some, slice_get, slice_set, codes}
-use Rattle.av_tree.specs.declared.node.Node.{Node, Node-F}
-use Rattle.av_tree.specs.declared.node.Body.{Body}
+use Rattle.std.specs.Prelude.{ℕ, List, [], ◌∷◌, length, Option, None, Some, slice_get, codes}
 use Rattle.av_tree.specs.declared.written.TypeText.{TypeText}
 use Rattle.av_tree.specs.declared.written.TypeText.TheVariants as types
 use Rattle.av_dialects.specs.declared.item.Slot.{Slot}
-use Rattle.av_dialects.specs.declared.item.Slot.TheVariants as slot
 use Rattle.av_dialects.specs.declared.item.Slots.{Slots}
 use Rattle.av_dialects.specs.declared.item.Slots.TheVariants as slots
 use Rattle.av_values.specs.Gifts.{Line, place_of, put_at_slot, types_around}

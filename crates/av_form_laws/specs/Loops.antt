@@ -2,17 +2,15 @@
 use Rattle.std.specs.Prelude.{ℕ, ℤ, pos, negsuc, ◌==◌, ◌&&◌, Bool, if◌then◌else◌, List, [], ◌∷◌, map, codes}
 use Rattle.std.specs.Str.{bytes_eq}
 use Rattle.av_tree.specs.declared.attribute.Attr.{Attr, Attr-F, out-Attr}
-use Rattle.av_tree.specs.declared.attribute.Attr.TheVariants as attr
 use Rattle.av_tree.specs.declared.attribute.Attr.TheOpen as attrs
 use Rattle.av_tree.specs.declared.attribute.Named.{Named, out-Named}
-use Rattle.av_tree.specs.declared.node.Body.{Body, out-Body, roll-Body}
+use Rattle.av_tree.specs.declared.node.Body.{Body, out-Body}
 use Rattle.av_tree.specs.declared.node.BodyArg.{BodyArg}
 use Rattle.av_tree.specs.declared.node.Node.{Node, Node-F, out-Node}
 use Rattle.av_tree.specs.declared.written.ExprText.TheVariants as expr
 use Rattle.av_tree.specs.declared.written.TypeText.{TypeText}
-use Rattle.av_tree.specs.declared.written.TypeText.TheVariants as types
 use Rattle.av_values.specs.Forms.{is_none}
-use Rattle.av_values.specs.Loops.{ended, step}
+use Rattle.av_values.specs.Loops.{step}
 use Rattle.av_values.specs.Nodes.{entry}
 use Rattle.av_form_laws.specs.Attributes.{Applied, written_map}
 

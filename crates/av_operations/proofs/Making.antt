@@ -1,5 +1,5 @@
 -- What the parts of a form make, one after another.
-use Rattle.std.proofs.Common.{◌≡◌, ℕ, List, [], ◌∷◌, ◌++◌, Option, Some, None, refl, ap, ◌∙◌, sym}
+use Rattle.std.proofs.Common.{◌≡◌, ℕ, List, [], ◌∷◌, ◌++◌, Option, Some, None, refl, ap, ◌∙◌}
 use Rattle.std.specs.Option.{option_map, option_and_then}
 use Rattle.av_dialects.specs.declared.item.Lead.{Lead}
 use Rattle.av_dialects.specs.declared.item.Lead.TheVariants as lead
@@ -11,7 +11,7 @@ use Rattle.av_values.specs.declared.gifts.Gift.{Gift}
 use Rattle.av_values.specs.declared.value.Value.{Value}
 use Rattle.av_values.specs.Gifts.{given, unwritten}
 use Rattle.av_values.specs.Made.{by_row, gift_of, made_of, split, taken}
-use Rattle.av_values.specs.Sorts.{All, Of, Sort, a_node, any, on_top, sorts_of}
+use Rattle.av_values.specs.Sorts.{All, Sort, a_node, any, on_top, sorts_of}
 use Rattle.av_values.proofs.Taking.{replaced-taken, taken-behind, taken-not-behind}
 
 -- ---- what is made of what is made

@@ -1,28 +1,19 @@
-//! Rows of operations of the Affine dialect.
+//! Rows of maps with their operands, and of the parts of loops.
 
-ghost use Rattle.std.specs.Prelude.{◌≡◌, ◌++◌, codes, reverse, Some, None, IfErr, IfOk, OnOk};
-ghost use Rattle.av_values.specs.Forms.{branch as the_branch};
-ghost use Rattle.av_values.specs.Nodes.{plain, with_body, with_results};
-ghost use Rattle.av_values.specs.Loops.{bound_of_number, bound_of_value, with_bound};
-ghost use Rattle.av_values.specs.Operations.{access_of, load_of as the_load_of, loop_of as the_loop_of, store_of as the_store_of, with_buffer, with_region as the_region, with_unwritten_result};
+ghost use Rattle.std.specs.Prelude.{◌≡◌, ◌++◌, Some, None, IfErr, IfOk, OnOk};
+ghost use Rattle.av_values.specs.Loops.{bound_of_number, bound_of_value};
 ghost use Rattle.av_operations.specs.rows.AffineRows.{by_row};
 
 use av_affine::{Seq, Text};
 use av_tree::table::AffineRule;
-use av_tree::{Attr, Body, ExprText, MapText, Named, Node, TypeText};
-use av_values::loops::{bound, carry, loop_variable, segment_sizes, step_of, with_terminator};
-use av_values::nodes::{
-    plain_node, plain_of, push_body, push_operands, push_property, push_results,
-    put_unwritten_result,
-};
+use av_tree::{Attr, ExprText, MapText};
 use av_values::numbers::integer_of;
 use av_values::puts::{no_nodes, no_texts, same_nodes, same_texts};
 use av_values::stack::{Fault, Stack, before, in_order, text_of};
-use av_values::subscripts::{Numbering, place_map};
-use av_values::value::{Carried, CarriedPair, Expression, MapUse};
+use av_values::value::{Carried, CarriedPair, MapUse};
 use std::alloc::Global;
 
-/// Does what a row of the Affine dialect does to the values of its symbols.
+/// Does what a row of maps or of the parts of loops does to the values of its symbols.
 pub fn reduce_affine(stack: &mut Stack, rule: AffineRule, place: u32) -> Result<(), Fault>
     ensures ok { OnOk result (by_row rule place stack.old ≡ Some stack.new) }
     ensures misshapen { IfErr result (λ fault. fault ≡ Fault.Misshapen → by_row rule place stack.old ≡ None) }
@@ -218,27 +209,6 @@ fn carried(stack: &mut Stack) -> Result<(), Fault>
     let types = before(ty, carried.types)?;
     stack.push_carried(Carried { pairs, types })?;
     Ok(())
-}
-
-// What a loop is written with.
-#[derive(Drop)]
-pub(super) struct Written {
-    name: Text,
-    lower: MapUse,
-    upper: MapUse,
-    step: i128,
-    carried: Carried,
-    nodes: Seq<Node>,
-    attrs: Seq<Named>,
-}
-
-// What an access is written with, but for a stored value.
-#[derive(Drop)]
-pub(super) struct WrittenAccess {
-    buffer: Text,
-    subscripts: Seq<Expression>,
-    attrs: Seq<Named>,
-    ty: TypeText,
 }
 
 #[tactic(auto, using(av_values::proofs::Replacing::replacing))]

@@ -1,24 +1,21 @@
-//! Rows of operations of the Arith dialect.
+//! Rows of constants, of the types of a choice and of flags of overflow.
 
-ghost use Rattle.std.specs.Prelude.{◌≡◌, [], ◌∷◌, codes, Some, None, IfErr, IfOk, OnOk};
+ghost use Rattle.std.specs.Prelude.{◌≡◌, codes, Some, None, IfErr, IfOk, OnOk};
 ghost use Rattle.av_values.specs.Nodes.{entry};
-ghost use Rattle.av_values.specs.Operations.{with_constant, with_one_type};
-ghost use Rattle.av_values.specs.Forms.{comparison_of, dense_constant_of, number_constant_of, selected_of as the_selected_of, selection_of, with_conversion};
+ghost use Rattle.av_values.specs.Forms.{dense_constant_of, number_constant_of, selected_of as the_selected_of};
 ghost use Rattle.av_operations.specs.rows.ArithRows.{by_row as by_arith_row};
 
 use av_affine::{Duplicate, Seq, Text};
 use av_tree::table::ArithRule;
-use av_tree::{Attr, Named, Node, TypeText};
-use av_values::nodes::{
-    plain_node, plain_of, property, push_operand, push_property, push_result, put_unwritten_result,
-};
+use av_tree::{Attr, Named, TypeText};
+use av_values::nodes::property;
 use av_values::puts::{no_entries, no_texts, text_before};
-use av_values::spellings::{is_true, predicate};
+use av_values::spellings::is_true;
 use av_values::stack::{Fault, Stack, before, in_order, text_of};
 use av_values::value::{Constant, Dense, Selected};
 use std::alloc::Global;
 
-/// Does what a row of the Arith dialect does to the values of its symbols.
+/// Does what a row of these does to the values of its symbols.
 pub fn reduce_arith(stack: &mut Stack, rule: ArithRule, place: u32) -> Result<(), Fault>
     ensures ok { OnOk result (by_arith_row rule place stack.old ≡ Some stack.new) }
     ensures misshapen { IfErr result (λ fault. fault ≡ Fault.Misshapen → by_arith_row rule place stack.old ≡ None) }

@@ -1,6 +1,6 @@
 //! What the items of forms give to an operation, by the values on the stack.
 
-ghost use Rattle.std.specs.Prelude.{◌≡◌, ◌++◌, [], ◌∷◌, codes, Some, None, IfErr, IfOk, OnErr, OnOk};
+ghost use Rattle.std.specs.Prelude.{◌≡◌, [], ◌∷◌, Some, None, IfErr, IfOk};
 ghost use Rattle.av_dialects.specs.declared.item.Item.TheVariants as items;
 ghost use Rattle.av_tree.specs.Forms.{angled_symbols, item_symbols, word_symbols};
 ghost use Rattle.av_values.specs.Made.{access as the_access, angled_gift, applied as the_applied, carrying as the_carrying, gift as the_gift, gift_of, operands_alone as the_operands_alone, property_alone as the_property_alone, taken, word_gift};

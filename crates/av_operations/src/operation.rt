@@ -1,7 +1,7 @@
 //! The row of an operation: what each item of its form gives is taken off the stack, from the first item to
 //! the last, and given to the operation from the last to the first.
 
-ghost use Rattle.std.specs.Prelude.{◌≡◌, ◌++◌, [], ◌∷◌, Some, None, IfErr, IfOk, OnOk};
+ghost use Rattle.std.specs.Prelude.{◌≡◌, [], Some, None, IfErr, IfOk, OnOk};
 ghost use Rattle.av_tree.specs.Forms.{form_symbols};
 ghost use Rattle.av_tree.specs.declared.node.Node.{roll-Node};
 ghost use Rattle.av_values.specs.Made.{blank as the_blank, by_row, made_of, taken, unwritten_results as the_unwritten_results};

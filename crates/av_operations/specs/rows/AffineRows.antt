@@ -1,4 +1,4 @@
--- What the rows of operations of the Affine dialect make of the values of their symbols. A list holds its last item first.
+-- What the rows of maps with their operands and of the parts of loops make of the values of their symbols. A list holds its last item first.
 use Rattle.std.specs.Prelude.{ℕ, List, [], ◌∷◌, ◌++◌, false, pos, reverse, Option, Some}
 use Rattle.av_tree.specs.declared.table.affine.AffineRule.{AffineRule}
 use Rattle.av_tree.specs.declared.table.affine.AffineRule.TheVariants as affine_rule
@@ -6,8 +6,6 @@ use Rattle.av_tree.specs.rows.AffineRows.{symbols_of, name_of}
 use Rattle.av_values.specs.Numbers.{spelled_integer}
 use Rattle.av_values.specs.Loops.{bound_of_number, bound_of_value}
 use Rattle.av_tree.specs.declared.attribute.Attr.TheVariants as attr
-use Rattle.av_values.specs.Forms.{branch_of, map_operation_of}
-use Rattle.av_values.specs.Operations.{load_of, loop_of, store_of}
 use Rattle.av_values.specs.declared.value.Value.{Value}
 use Rattle.av_values.specs.Sorts.{All, Of, replaced, sort_of, sorts_of}
 

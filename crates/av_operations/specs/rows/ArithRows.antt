@@ -1,4 +1,4 @@
--- What the rows of operations of the Arith dialect make of the values of their symbols. A list holds its last item first.
+-- What the rows of constants, of the types of a choice and of flags of overflow make of the values of their symbols. A list holds its last item first.
 use Rattle.std.specs.Prelude.{ℕ, List, [], ◌∷◌, ◌++◌, codes, reverse, Option, None, Some}
 use Rattle.av_tree.specs.declared.table.arith.ArithRule.{ArithRule}
 use Rattle.av_tree.specs.declared.table.arith.ArithRule.TheVariants as arith_rule
@@ -6,8 +6,7 @@ use Rattle.av_tree.specs.rows.ArithRows.{symbols_of, name_of}
 use Rattle.av_tree.specs.declared.attribute.Attr.TheVariants as attr
 use Rattle.av_tree.specs.declared.written.TypeText.TheVariants as ty
 use Rattle.av_values.specs.Nodes.{entry}
-use Rattle.av_values.specs.Forms.{comparison_of, conversion_of, selected_of, selection_of}
-use Rattle.av_values.specs.Operations.{binary_of, constant_of}
+use Rattle.av_values.specs.Forms.{selected_of}
 use Rattle.av_values.specs.Spellings.{is_true}
 use Rattle.av_values.specs.declared.value.Value.{Value}
 use Rattle.av_values.specs.Sorts.{All, Of, replaced, sort_of, sorts_of}
