@@ -1,0 +1,10 @@
+pub mod Divisions
+pub mod Finding
+pub mod Forms
+pub mod Limits
+pub mod Places
+pub mod Results
+pub mod Sizes
+pub mod Spelling
+pub mod Values
+pub mod formers

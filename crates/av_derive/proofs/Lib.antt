@@ -1,0 +1,10 @@
+pub mod Weights
+pub mod Steps
+pub mod OneDerivation
+pub mod Refusals
+pub mod Shortest
+pub mod Balance
+pub mod Completion
+pub mod Calm
+pub mod Deep
+pub mod Keywords

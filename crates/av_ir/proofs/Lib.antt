@@ -1,0 +1,12 @@
+pub mod Sizes
+pub mod Insides
+pub mod Pairs
+pub mod Memories
+pub mod Levels
+pub mod MarkedLevels
+pub mod Turns
+pub mod MadeParts
+pub mod Flags
+pub mod InnerLoops
+pub mod TurnLaws
+pub mod NumberLaws

@@ -1,0 +1,11 @@
+pub mod Pieces
+pub mod Types
+pub mod Expressions
+pub mod Attributes
+pub mod Dictionaries
+pub mod Operations
+pub mod Parts
+pub mod OwnForms
+pub mod Examples
+pub mod Spelling
+pub mod Printing

@@ -1,0 +1,4 @@
+pub mod Shape
+pub mod Inside
+pub mod Places
+pub mod Order

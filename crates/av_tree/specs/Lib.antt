@@ -1,0 +1,7 @@
+pub mod Classes
+pub mod Needs
+pub mod Sets
+pub mod Signs
+pub mod Table
+pub mod Templates
+pub mod rows

@@ -1,0 +1,12 @@
+pub mod Behind
+pub mod Bindings
+pub mod TextVariants
+pub mod Outcomes
+pub mod Walks
+pub mod Counts
+pub mod Wholes
+pub mod Given
+pub mod Rules
+pub mod GoodMaps
+pub mod Kept
+pub mod Smallest
