@@ -9,6 +9,7 @@ mod holders;
 mod results;
 mod rows;
 mod segments;
+mod slices;
 mod type_views;
 mod typing;
 mod views;
@@ -20,6 +21,7 @@ pub use holders::Holder;
 pub use results::{ResultTypes, part_at, result_at, result_count, result_types};
 pub use rows::signature_named;
 pub use segments::{Segments, segments_of};
+pub use slices::{first_of, rest_of};
 pub use type_views::{
     ExtentsView, SizesView, TypeView, element_of, extent_at, extent_count, is_memref, is_plain,
     is_vector, part_of, rank_of, size_at, size_count, spelled, view_of, with_elements,
