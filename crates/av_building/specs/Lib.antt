@@ -1,0 +1,5 @@
+pub mod Scopes
+pub mod Constants
+pub mod Types
+pub mod Entries
+pub mod Doing
