@@ -1,0 +1,22 @@
+//! Lists that contracts see as lists, and affine expressions, maps and sets over them.
+//!
+//! An affine expression is that of MLIR's Affine dialect: a sum of parameters with constant factors,
+//! with `mod`, `floordiv` and `ceildiv` by positive constants.
+#![tactic(auto)]
+
+mod duplicate;
+mod expression;
+mod held;
+mod seq;
+
+pub use duplicate::{Duplicate, duplicate_all};
+pub use expression::{AffMap, AffSet, Expr, Leaf, SetRow};
+pub use held::Held;
+pub use seq::{Seq, set_in};
+
+/// A number or place of an operation, loop, function, value, leaf, argument or block, or a count of
+/// parameters or rows.
+pub type No = u64;
+
+/// A text: its bytes in order.
+pub type Text = Seq<u8>;
