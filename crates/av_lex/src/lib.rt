@@ -1,0 +1,9 @@
+//! The tokens of a text.
+//!
+//! Space, tab, CR, LF and comments (`//` to the end of the line) separate tokens; at each place the
+//! longest token is taken.
+#![tactic(auto)]
+
+mod token;
+
+pub use token::{Kind, LexFault, Sign, Token};
