@@ -1,0 +1,11 @@
+//! The tree of a text: its operations by the names, values, properties, regions and types that are
+//! written, before any of them is looked up or checked.
+#![tactic(auto)]
+
+mod attribute;
+mod node;
+mod written;
+
+pub use attribute::{Alias, Attr, Element, Named};
+pub use node::{Body, BodyArg, Node, Tree};
+pub use written::{DimText, ExprText, LayoutText, MapText, RowText, SetText, SizeText, TypeText};
