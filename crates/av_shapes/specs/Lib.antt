@@ -1,0 +1,3 @@
+pub mod ShapeView
+pub mod Inside
+pub mod Equal
