@@ -3,9 +3,12 @@
 #![tactic(auto)]
 
 mod attribute;
+mod class;
 mod node;
+pub mod table;
 mod written;
 
 pub use attribute::{Alias, Attr, Element, Named};
+pub use class::{Bracket, Class, Keyword, bracket_of, class_of, spelling_of};
 pub use node::{Body, BodyArg, Node, Tree};
 pub use written::{DimText, ExprText, LayoutText, MapText, RowText, SetText, SizeText, TypeText};

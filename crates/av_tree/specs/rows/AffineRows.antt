@@ -1,0 +1,67 @@
+-- The rows of operations of the Affine dialect: the symbols of each, and the name that it is a row of.
+use Rattle.std.specs.Prelude.{List, [], ◌∷◌}
+use Rattle.av_tree.specs.declared.table.Symbol.{Symbol}
+use Rattle.av_tree.specs.declared.table.Symbol.TheVariants as symbol
+use Rattle.av_tree.specs.declared.table.Name.{Name}
+use Rattle.av_tree.specs.declared.table.Name.TheVariants as name
+use Rattle.av_tree.specs.declared.table.affine.AffineRule.{AffineRule}
+use Rattle.av_tree.specs.declared.table.affine.AffineRule.TheVariants as affine_rule
+use Rattle.av_tree.specs.declared.table.functions.FunctionName.TheVariants as functions_name
+use Rattle.av_tree.specs.declared.table.regions.RegionName.TheVariants as regions_name
+use Rattle.av_tree.specs.declared.table.types.TypeName.TheVariants as types_name
+use Rattle.av_tree.specs.declared.table.attributes.AttributeName.TheVariants as attributes_name
+use Rattle.av_tree.specs.declared.table.maps.MapName.TheVariants as maps_name
+use Rattle.av_tree.specs.declared.table.values.ValueName.TheVariants as values_name
+use Rattle.av_tree.specs.declared.table.affine.AffineName.TheVariants as affine_name
+use Rattle.av_tree.specs.declared.table.subscripts.SubscriptName.TheVariants as subscripts_name
+use Rattle.av_lex.specs.declared.token.Sign.TheVariants as sign
+use Rattle.av_tree.specs.declared.class.Keyword.TheVariants as key
+use Rattle.av_tree.specs.declared.table.Test.TheVariants as test
+
+abbrev pub symbols_of : AffineRule → List Symbol
+symbols_of affine_rule.AffineFor = (symbol.Word key.AffineFor) ∷ (symbol.Token test.ValId) ∷ (symbol.Sign sign.Equal) ∷ (symbol.Rows (name.Affine affine_name.LowerBound)) ∷ (symbol.Word key.To) ∷ (symbol.Rows (name.Affine affine_name.UpperBound)) ∷ (symbol.Rows (name.Affine affine_name.OptionalStep)) ∷ (symbol.Rows (name.Affine affine_name.OptionalIterArgs)) ∷ (symbol.Rows (name.Region regions_name.Region)) ∷ (symbol.Rows (name.Attribute attributes_name.OptionalDictionary)) ∷ []
+symbols_of affine_rule.AffineLoad = (symbol.Word key.AffineLoad) ∷ (symbol.Rows (name.Value values_name.Value)) ∷ (symbol.Sign sign.OpenSquare) ∷ (symbol.Rows (name.Subscript subscripts_name.Subscripts)) ∷ (symbol.Sign sign.CloseSquare) ∷ (symbol.Rows (name.Attribute attributes_name.OptionalDictionary)) ∷ (symbol.Sign sign.Colon) ∷ (symbol.Rows (name.Type types_name.MemRef)) ∷ []
+symbols_of affine_rule.AffineStore = (symbol.Word key.AffineStore) ∷ (symbol.Rows (name.Value values_name.Value)) ∷ (symbol.Sign sign.Comma) ∷ (symbol.Rows (name.Value values_name.Value)) ∷ (symbol.Sign sign.OpenSquare) ∷ (symbol.Rows (name.Subscript subscripts_name.Subscripts)) ∷ (symbol.Sign sign.CloseSquare) ∷ (symbol.Rows (name.Attribute attributes_name.OptionalDictionary)) ∷ (symbol.Sign sign.Colon) ∷ (symbol.Rows (name.Type types_name.MemRef)) ∷ []
+symbols_of affine_rule.GreatestOf = (symbol.Word key.Max) ∷ (symbol.Rows (name.Affine affine_name.MapUse)) ∷ []
+symbols_of affine_rule.PlainLowerBound = (symbol.Rows (name.Affine affine_name.Bound)) ∷ []
+symbols_of affine_rule.LeastOf = (symbol.Word key.Min) ∷ (symbol.Rows (name.Affine affine_name.MapUse)) ∷ []
+symbols_of affine_rule.PlainUpperBound = (symbol.Rows (name.Affine affine_name.Bound)) ∷ []
+symbols_of affine_rule.NumberBound = (symbol.Rows (name.Value values_name.Integer)) ∷ []
+symbols_of affine_rule.ValueBound = (symbol.Rows (name.Value values_name.Value)) ∷ []
+symbols_of affine_rule.MapBound = (symbol.Rows (name.Affine affine_name.MapUse)) ∷ []
+symbols_of affine_rule.NoStep = []
+symbols_of affine_rule.WrittenStep = (symbol.Word key.Step) ∷ (symbol.Token test.Number) ∷ []
+symbols_of affine_rule.NoIterArgs = []
+symbols_of affine_rule.WrittenIterArgs = (symbol.Word key.IterArgs) ∷ (symbol.Sign sign.OpenRound) ∷ (symbol.Rows (name.Affine affine_name.Carried)) ∷ (symbol.Sign sign.CloseRound) ∷ []
+symbols_of affine_rule.NoCarried = (symbol.Sign sign.CloseRound) ∷ (symbol.Sign sign.Arrow) ∷ (symbol.Sign sign.OpenRound) ∷ []
+symbols_of affine_rule.FirstCarried = (symbol.Token test.ValId) ∷ (symbol.Sign sign.Equal) ∷ (symbol.Rows (name.Value values_name.Value)) ∷ (symbol.Rows (name.Affine affine_name.MoreCarried)) ∷ (symbol.Rows (name.Type types_name.Type)) ∷ []
+symbols_of affine_rule.NoMoreCarried = (symbol.Sign sign.CloseRound) ∷ (symbol.Sign sign.Arrow) ∷ (symbol.Sign sign.OpenRound) ∷ []
+symbols_of affine_rule.NextCarried = (symbol.Sign sign.Comma) ∷ (symbol.Token test.ValId) ∷ (symbol.Sign sign.Equal) ∷ (symbol.Rows (name.Value values_name.Value)) ∷ (symbol.Rows (name.Affine affine_name.MoreCarried)) ∷ (symbol.Rows (name.Type types_name.Type)) ∷ (symbol.Sign sign.Comma) ∷ []
+symbols_of affine_rule.MapWritten = (symbol.Rows (name.Map maps_name.AffineMap)) ∷ (symbol.Rows (name.Affine affine_name.MapOperands)) ∷ []
+symbols_of affine_rule.DimensionOperands = (symbol.Sign sign.OpenRound) ∷ (symbol.Rows (name.Value values_name.Values)) ∷ (symbol.Sign sign.CloseRound) ∷ (symbol.Rows (name.Affine affine_name.SymbolOperands)) ∷ []
+symbols_of affine_rule.NoSymbolOperands = []
+symbols_of affine_rule.WrittenSymbolOperands = (symbol.Sign sign.OpenSquare) ∷ (symbol.Rows (name.Value values_name.Values)) ∷ (symbol.Sign sign.CloseSquare) ∷ []
+
+abbrev pub name_of : AffineRule → Name
+name_of affine_rule.AffineFor = name.Function functions_name.Form
+name_of affine_rule.AffineLoad = name.Function functions_name.Form
+name_of affine_rule.AffineStore = name.Function functions_name.Form
+name_of affine_rule.GreatestOf = name.Affine affine_name.LowerBound
+name_of affine_rule.PlainLowerBound = name.Affine affine_name.LowerBound
+name_of affine_rule.LeastOf = name.Affine affine_name.UpperBound
+name_of affine_rule.PlainUpperBound = name.Affine affine_name.UpperBound
+name_of affine_rule.NumberBound = name.Affine affine_name.Bound
+name_of affine_rule.ValueBound = name.Affine affine_name.Bound
+name_of affine_rule.MapBound = name.Affine affine_name.Bound
+name_of affine_rule.NoStep = name.Affine affine_name.OptionalStep
+name_of affine_rule.WrittenStep = name.Affine affine_name.OptionalStep
+name_of affine_rule.NoIterArgs = name.Affine affine_name.OptionalIterArgs
+name_of affine_rule.WrittenIterArgs = name.Affine affine_name.OptionalIterArgs
+name_of affine_rule.NoCarried = name.Affine affine_name.Carried
+name_of affine_rule.FirstCarried = name.Affine affine_name.Carried
+name_of affine_rule.NoMoreCarried = name.Affine affine_name.MoreCarried
+name_of affine_rule.NextCarried = name.Affine affine_name.MoreCarried
+name_of affine_rule.MapWritten = name.Affine affine_name.MapUse
+name_of affine_rule.DimensionOperands = name.Affine affine_name.MapOperands
+name_of affine_rule.NoSymbolOperands = name.Affine affine_name.SymbolOperands
+name_of affine_rule.WrittenSymbolOperands = name.Affine affine_name.SymbolOperands

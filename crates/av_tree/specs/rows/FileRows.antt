@@ -1,0 +1,37 @@
+-- The rows of files: the symbols of each, and the name that it is a row of.
+use Rattle.std.specs.Prelude.{List, [], ◌∷◌}
+use Rattle.av_tree.specs.declared.table.Symbol.{Symbol}
+use Rattle.av_tree.specs.declared.table.Symbol.TheVariants as symbol
+use Rattle.av_tree.specs.declared.table.Name.{Name}
+use Rattle.av_tree.specs.declared.table.Name.TheVariants as name
+use Rattle.av_tree.specs.declared.table.file.FileRule.{FileRule}
+use Rattle.av_tree.specs.declared.table.file.FileRule.TheVariants as file_rule
+use Rattle.av_tree.specs.declared.table.file.FileName.TheVariants as file_name
+use Rattle.av_tree.specs.declared.table.functions.FunctionName.TheVariants as functions_name
+use Rattle.av_tree.specs.declared.table.values.ValueName.TheVariants as values_name
+
+abbrev pub symbols_of : FileRule → List Symbol
+symbols_of file_rule.WholeFile = (symbol.Rows (name.File file_name.Aliases)) ∷ (symbol.Rows (name.File file_name.Content)) ∷ []
+symbols_of file_rule.NoMoreAliases = []
+symbols_of file_rule.NoContent = []
+symbols_of file_rule.NamedContent = (symbol.Rows (name.Value values_name.Results)) ∷ (symbol.Rows (name.File file_name.TopLevel)) ∷ []
+symbols_of file_rule.PlainContent = (symbol.Rows (name.File file_name.TopLevel)) ∷ []
+symbols_of file_rule.OnlyModule = (symbol.Rows (name.Function functions_name.Module)) ∷ []
+symbols_of file_rule.FirstFunction = (symbol.Rows (name.File file_name.Function)) ∷ (symbol.Rows (name.File file_name.MoreFunctions)) ∷ []
+symbols_of file_rule.NoMoreFunctions = []
+symbols_of file_rule.NextNamedFunction = (symbol.Rows (name.Value values_name.Results)) ∷ (symbol.Rows (name.File file_name.Function)) ∷ (symbol.Rows (name.File file_name.MoreFunctions)) ∷ []
+symbols_of file_rule.NextFunction = (symbol.Rows (name.File file_name.Function)) ∷ (symbol.Rows (name.File file_name.MoreFunctions)) ∷ []
+symbols_of file_rule.WrittenFunction = (symbol.Rows (name.Function functions_name.NamedFunction)) ∷ []
+
+abbrev pub name_of : FileRule → Name
+name_of file_rule.WholeFile = name.File file_name.File
+name_of file_rule.NoMoreAliases = name.File file_name.Aliases
+name_of file_rule.NoContent = name.File file_name.Content
+name_of file_rule.NamedContent = name.File file_name.Content
+name_of file_rule.PlainContent = name.File file_name.Content
+name_of file_rule.OnlyModule = name.File file_name.TopLevel
+name_of file_rule.FirstFunction = name.File file_name.TopLevel
+name_of file_rule.NoMoreFunctions = name.File file_name.MoreFunctions
+name_of file_rule.NextNamedFunction = name.File file_name.MoreFunctions
+name_of file_rule.NextFunction = name.File file_name.MoreFunctions
+name_of file_rule.WrittenFunction = name.File file_name.Function

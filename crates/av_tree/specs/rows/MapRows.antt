@@ -1,0 +1,72 @@
+-- The rows of maps and their expressions: the symbols of each, and the name that it is a row of.
+use Rattle.std.specs.Prelude.{List, [], ◌∷◌}
+use Rattle.av_tree.specs.declared.table.Symbol.{Symbol}
+use Rattle.av_tree.specs.declared.table.Symbol.TheVariants as symbol
+use Rattle.av_tree.specs.declared.table.Name.{Name}
+use Rattle.av_tree.specs.declared.table.Name.TheVariants as name
+use Rattle.av_tree.specs.declared.table.maps.MapRule.{MapRule}
+use Rattle.av_tree.specs.declared.table.maps.MapRule.TheVariants as maps_rule
+use Rattle.av_tree.specs.declared.table.maps.MapName.TheVariants as maps_name
+use Rattle.av_lex.specs.declared.token.Sign.TheVariants as sign
+use Rattle.av_tree.specs.declared.class.Keyword.TheVariants as key
+use Rattle.av_tree.specs.declared.table.Test.TheVariants as test
+
+abbrev pub symbols_of : MapRule → List Symbol
+symbols_of maps_rule.WrittenMap = (symbol.Word key.AffineMap) ∷ (symbol.Sign sign.OpenAngle) ∷ (symbol.Rows (name.Map maps_name.Parameters)) ∷ (symbol.Sign sign.Arrow) ∷ (symbol.Sign sign.OpenRound) ∷ (symbol.Rows (name.Map maps_name.Expressions)) ∷ (symbol.Sign sign.CloseRound) ∷ (symbol.Sign sign.CloseAngle) ∷ []
+symbols_of maps_rule.DimensionNames = (symbol.Sign sign.OpenRound) ∷ (symbol.Rows (name.Map maps_name.Words)) ∷ (symbol.Sign sign.CloseRound) ∷ (symbol.Rows (name.Map maps_name.SymbolNames)) ∷ []
+symbols_of maps_rule.NoSymbolNames = []
+symbols_of maps_rule.WrittenSymbolNames = (symbol.Sign sign.OpenSquare) ∷ (symbol.Rows (name.Map maps_name.Words)) ∷ (symbol.Sign sign.CloseSquare) ∷ []
+symbols_of maps_rule.NoWords = []
+symbols_of maps_rule.FirstWord = (symbol.Token test.Word) ∷ (symbol.Rows (name.Map maps_name.MoreWords)) ∷ []
+symbols_of maps_rule.NoMoreWords = []
+symbols_of maps_rule.NextWord = (symbol.Sign sign.Comma) ∷ (symbol.Token test.Word) ∷ (symbol.Rows (name.Map maps_name.MoreWords)) ∷ []
+symbols_of maps_rule.NoExpressions = []
+symbols_of maps_rule.FirstExpression = (symbol.Rows (name.Map maps_name.Expression)) ∷ (symbol.Rows (name.Map maps_name.MoreExpressions)) ∷ []
+symbols_of maps_rule.NoMoreExpressions = []
+symbols_of maps_rule.NextExpression = (symbol.Sign sign.Comma) ∷ (symbol.Rows (name.Map maps_name.Expression)) ∷ (symbol.Rows (name.Map maps_name.MoreExpressions)) ∷ []
+symbols_of maps_rule.WholeExpression = (symbol.Rows (name.Map maps_name.Term)) ∷ (symbol.Rows (name.Map maps_name.Sum)) ∷ []
+symbols_of maps_rule.NoMoreTerms = []
+symbols_of maps_rule.PlusTerm = (symbol.Sign sign.Plus) ∷ (symbol.Rows (name.Map maps_name.Term)) ∷ (symbol.Rows (name.Map maps_name.Sum)) ∷ []
+symbols_of maps_rule.MinusTerm = (symbol.Sign sign.Minus) ∷ (symbol.Rows (name.Map maps_name.Term)) ∷ (symbol.Rows (name.Map maps_name.Sum)) ∷ []
+symbols_of maps_rule.WholeTerm = (symbol.Rows (name.Map maps_name.Factor)) ∷ (symbol.Rows (name.Map maps_name.Product)) ∷ []
+symbols_of maps_rule.NoMoreFactors = []
+symbols_of maps_rule.TimesFactor = (symbol.Sign sign.Star) ∷ (symbol.Rows (name.Map maps_name.Factor)) ∷ (symbol.Rows (name.Map maps_name.Product)) ∷ []
+symbols_of maps_rule.DivisionFactor = (symbol.Token test.Division) ∷ (symbol.Rows (name.Map maps_name.Factor)) ∷ (symbol.Rows (name.Map maps_name.Product)) ∷ []
+symbols_of maps_rule.NumberFactor = (symbol.Token test.Number) ∷ []
+symbols_of maps_rule.PlainFactor = (symbol.Rows (name.Map maps_name.Base)) ∷ []
+symbols_of maps_rule.MinusFactor = (symbol.Sign sign.Minus) ∷ (symbol.Rows (name.Map maps_name.Negated)) ∷ []
+symbols_of maps_rule.NegativeNumber = (symbol.Token test.Number) ∷ []
+symbols_of maps_rule.NegatedBase = (symbol.Rows (name.Map maps_name.Base)) ∷ []
+symbols_of maps_rule.ParameterName = (symbol.Token test.Parameter) ∷ []
+symbols_of maps_rule.DivisionName = (symbol.Token test.Division) ∷ []
+symbols_of maps_rule.InBrackets = (symbol.Sign sign.OpenRound) ∷ (symbol.Rows (name.Map maps_name.Term)) ∷ (symbol.Rows (name.Map maps_name.Sum)) ∷ (symbol.Sign sign.CloseRound) ∷ []
+
+abbrev pub name_of : MapRule → Name
+name_of maps_rule.WrittenMap = name.Map maps_name.AffineMap
+name_of maps_rule.DimensionNames = name.Map maps_name.Parameters
+name_of maps_rule.NoSymbolNames = name.Map maps_name.SymbolNames
+name_of maps_rule.WrittenSymbolNames = name.Map maps_name.SymbolNames
+name_of maps_rule.NoWords = name.Map maps_name.Words
+name_of maps_rule.FirstWord = name.Map maps_name.Words
+name_of maps_rule.NoMoreWords = name.Map maps_name.MoreWords
+name_of maps_rule.NextWord = name.Map maps_name.MoreWords
+name_of maps_rule.NoExpressions = name.Map maps_name.Expressions
+name_of maps_rule.FirstExpression = name.Map maps_name.Expressions
+name_of maps_rule.NoMoreExpressions = name.Map maps_name.MoreExpressions
+name_of maps_rule.NextExpression = name.Map maps_name.MoreExpressions
+name_of maps_rule.WholeExpression = name.Map maps_name.Expression
+name_of maps_rule.NoMoreTerms = name.Map maps_name.Sum
+name_of maps_rule.PlusTerm = name.Map maps_name.Sum
+name_of maps_rule.MinusTerm = name.Map maps_name.Sum
+name_of maps_rule.WholeTerm = name.Map maps_name.Term
+name_of maps_rule.NoMoreFactors = name.Map maps_name.Product
+name_of maps_rule.TimesFactor = name.Map maps_name.Product
+name_of maps_rule.DivisionFactor = name.Map maps_name.Product
+name_of maps_rule.NumberFactor = name.Map maps_name.Factor
+name_of maps_rule.PlainFactor = name.Map maps_name.Factor
+name_of maps_rule.MinusFactor = name.Map maps_name.Factor
+name_of maps_rule.NegativeNumber = name.Map maps_name.Negated
+name_of maps_rule.NegatedBase = name.Map maps_name.Negated
+name_of maps_rule.ParameterName = name.Map maps_name.Base
+name_of maps_rule.DivisionName = name.Map maps_name.Base
+name_of maps_rule.InBrackets = name.Map maps_name.Base

@@ -1,0 +1,44 @@
+-- The rows of types: the symbols of each, and the name that it is a row of.
+use Rattle.std.specs.Prelude.{List, [], ◌∷◌}
+use Rattle.av_tree.specs.declared.table.Symbol.{Symbol}
+use Rattle.av_tree.specs.declared.table.Symbol.TheVariants as symbol
+use Rattle.av_tree.specs.declared.table.Name.{Name}
+use Rattle.av_tree.specs.declared.table.Name.TheVariants as name
+use Rattle.av_tree.specs.declared.table.types.TypeRule.{TypeRule}
+use Rattle.av_tree.specs.declared.table.types.TypeRule.TheVariants as types_rule
+use Rattle.av_tree.specs.declared.table.types.TypeName.TheVariants as types_name
+use Rattle.av_lex.specs.declared.token.Sign.TheVariants as sign
+use Rattle.av_tree.specs.declared.class.Keyword.TheVariants as key
+use Rattle.av_tree.specs.declared.table.Test.TheVariants as test
+
+abbrev pub symbols_of : TypeRule → List Symbol
+symbols_of types_rule.ScalarType = (symbol.Token test.Scalar) ∷ []
+symbols_of types_rule.BufferType = (symbol.Rows (name.Type types_name.MemRef)) ∷ []
+symbols_of types_rule.MemRefType = (symbol.Word key.MemRef) ∷ (symbol.Sign sign.OpenAngle) ∷ (symbol.Rows (name.Type types_name.Sizes)) ∷ (symbol.Token test.Scalar) ∷ (symbol.Rows (name.Type types_name.Layout)) ∷ (symbol.Sign sign.CloseAngle) ∷ []
+symbols_of types_rule.NoMoreSizes = []
+symbols_of types_rule.NextSize = (symbol.Token test.DimX) ∷ (symbol.Rows (name.Type types_name.Sizes)) ∷ []
+symbols_of types_rule.NoTypes = []
+symbols_of types_rule.FirstType = (symbol.Rows (name.Type types_name.Type)) ∷ (symbol.Rows (name.Type types_name.MoreTypes)) ∷ []
+symbols_of types_rule.NoMoreTypes = []
+symbols_of types_rule.NextType = (symbol.Sign sign.Comma) ∷ (symbol.Rows (name.Type types_name.Type)) ∷ (symbol.Rows (name.Type types_name.MoreTypes)) ∷ []
+symbols_of types_rule.OneResultType = (symbol.Rows (name.Type types_name.Type)) ∷ []
+symbols_of types_rule.ResultTypeList = (symbol.Sign sign.OpenRound) ∷ (symbol.Rows (name.Type types_name.Types)) ∷ (symbol.Sign sign.CloseRound) ∷ []
+symbols_of types_rule.NoResultTypes = []
+symbols_of types_rule.WrittenResultTypes = (symbol.Sign sign.Arrow) ∷ (symbol.Rows (name.Type types_name.ResultTypes)) ∷ []
+symbols_of types_rule.NoLayout = []
+
+abbrev pub name_of : TypeRule → Name
+name_of types_rule.ScalarType = name.Type types_name.Type
+name_of types_rule.BufferType = name.Type types_name.Type
+name_of types_rule.MemRefType = name.Type types_name.MemRef
+name_of types_rule.NoMoreSizes = name.Type types_name.Sizes
+name_of types_rule.NextSize = name.Type types_name.Sizes
+name_of types_rule.NoTypes = name.Type types_name.Types
+name_of types_rule.FirstType = name.Type types_name.Types
+name_of types_rule.NoMoreTypes = name.Type types_name.MoreTypes
+name_of types_rule.NextType = name.Type types_name.MoreTypes
+name_of types_rule.OneResultType = name.Type types_name.ResultTypes
+name_of types_rule.ResultTypeList = name.Type types_name.ResultTypes
+name_of types_rule.NoResultTypes = name.Type types_name.OptionalResultTypes
+name_of types_rule.WrittenResultTypes = name.Type types_name.OptionalResultTypes
+name_of types_rule.NoLayout = name.Type types_name.Layout

@@ -1,0 +1,207 @@
+//! The format as a table of rows, which one token ahead tells apart.
+//!
+//! A name stands for one of its rows, and a row is a list of symbols: tokens and names. The text of a
+//! module is what the rows of `File` derive. `choose` gives the one row of a name that can begin with
+//! a token; where none can, any row is given, and its first token refuses that token.
+
+ghost use Rattle.std.specs.Prelude.{◌≡◌, IsTrue};
+ghost use Rattle.av_tree.specs.Table.{symbols_of, name_of, is_lighter};
+
+mod affine;
+mod arith;
+mod attributes;
+mod file;
+mod functions;
+mod maps;
+mod regions;
+mod subscripts;
+mod types;
+mod values;
+
+use super::class::{Class, Keyword, is_word_class};
+pub use affine::{AffineName, AffineRule};
+pub use arith::{ArithName, ArithRule};
+pub use attributes::{AttributeName, AttributeRule};
+use av_lex::Sign;
+pub use file::{FileName, FileRule};
+pub use functions::{FunctionName, FunctionRule};
+pub use maps::{MapName, MapRule};
+pub use regions::{RegionName, RegionRule};
+pub use subscripts::{SubscriptName, SubscriptRule};
+pub use types::{TypeName, TypeRule};
+pub use values::{ValueName, ValueRule};
+
+/// A token of one of several classes, whose spelling matters to what its row makes.
+#[derive(Clone, Copy)]
+pub enum Test {
+    Number,
+    DimX,
+    Scalar,
+    ValId,
+    SymId,
+    HashDigits,
+    /// Any word.
+    Word,
+    /// Any word but those of divisions: the name of a parameter.
+    Parameter,
+    /// Any word but `function_type`: the name of an entry in a dictionary.
+    EntryName,
+    Terminator,
+    Overflowing,
+    Visibility,
+    OverflowFlag,
+    Division,
+}
+
+/// A part of a row: a sign, a word, a token whose spelling matters, or a name.
+#[derive(Clone, Copy)]
+pub enum Symbol {
+    Sign(Sign),
+    Word(Keyword),
+    Token(Test),
+    Rows(Name),
+}
+
+/// A name, by the group that it stands in.
+#[derive(Clone, Copy)]
+pub enum Name {
+    File(FileName),
+    Function(FunctionName),
+    Region(RegionName),
+    Type(TypeName),
+    Attribute(AttributeName),
+    Map(MapName),
+    Value(ValueName),
+    Arith(ArithName),
+    Affine(AffineName),
+    Subscript(SubscriptName),
+}
+
+/// A row, by the group that it stands in.
+#[derive(Clone, Copy)]
+pub enum Rule {
+    File(FileRule),
+    Function(FunctionRule),
+    Region(RegionRule),
+    Type(TypeRule),
+    Attribute(AttributeRule),
+    Map(MapRule),
+    Value(ValueRule),
+    Arith(ArithRule),
+    Affine(AffineRule),
+    Subscript(SubscriptRule),
+}
+
+/// The symbols of a row, in order.
+pub fn symbols(rule: Rule) -> &'static [Symbol]
+    ensures value { result.now ≡ symbols_of rule }
+    // Expanding names ends, since each row weighs less than its name.
+    ensures lighter { IsTrue (is_lighter rule) }
+{
+    symbols_in_group(rule)
+}
+
+fn symbols_in_group(rule: Rule) -> &'static [Symbol]
+    ensures { result.now ≡ symbols_of rule }
+{
+    match rule {
+        Rule::File(rule) => file::symbols(rule),
+        Rule::Function(rule) => functions::symbols(rule),
+        Rule::Region(rule) => regions::symbols(rule),
+        Rule::Type(rule) => types::symbols(rule),
+        Rule::Attribute(rule) => attributes::symbols(rule),
+        Rule::Map(rule) => maps::symbols(rule),
+        Rule::Value(rule) => values::symbols(rule),
+        Rule::Arith(rule) => arith::symbols(rule),
+        Rule::Affine(rule) => affine::symbols(rule),
+        Rule::Subscript(rule) => subscripts::symbols(rule),
+    }
+}
+
+/// The row of a name that can begin with a token of this class, or any of its rows where none can.
+pub fn choose(name: Name, class: Class) -> Rule
+    ensures { name_of result ≡ name }
+{
+    match name {
+        Name::File(name) => file::choose(name, class),
+        Name::Function(name) => functions::choose(name, class),
+        Name::Region(name) => regions::choose(name, class),
+        Name::Type(name) => types::choose(name, class),
+        Name::Attribute(name) => attributes::choose(name, class),
+        Name::Map(name) => maps::choose(name, class),
+        Name::Value(name) => values::choose(name, class),
+        Name::Arith(name) => arith::choose(name, class),
+        Name::Affine(name) => affine::choose(name, class),
+        Name::Subscript(name) => subscripts::choose(name, class),
+    }
+}
+
+/// Whether a token of this class may stand for a test.
+pub fn fits(test: Test, class: Class) -> bool {
+    match test {
+        Test::Number => matches!(class, Class::Zero | Class::Positive),
+        Test::DimX => class == Class::DimX,
+        Test::Scalar => class == Class::Scalar,
+        Test::ValId => class == Class::ValId,
+        Test::SymId => class == Class::SymId,
+        Test::HashDigits => class == Class::HashDigits,
+        Test::Word => is_word_class(class),
+        Test::Parameter => is_word_class(class) && class != Class::Word(Keyword::Division),
+        Test::EntryName => is_word_class(class) && class != Class::Word(Keyword::FunctionType),
+        Test::Terminator => class == Class::Word(Keyword::Terminator),
+        Test::Overflowing => class == Class::Word(Keyword::Overflowing),
+        Test::Visibility => class == Class::Word(Keyword::Visibility),
+        Test::OverflowFlag => class == Class::Word(Keyword::OverflowFlag),
+        Test::Division => class == Class::Word(Keyword::Division),
+    }
+}
+
+/// The least number of further brackets that are open at once in whatever a row derives.
+pub fn need(rule: Rule) -> u32 {
+    match rule {
+        Rule::File(rule) => file::need(rule),
+        Rule::Function(rule) => functions::need(rule),
+        Rule::Region(RegionRule::NamedRegion) => 1,
+        Rule::Type(TypeRule::BufferType | TypeRule::MemRefType | TypeRule::ResultTypeList) => 1,
+        Rule::Attribute(
+            AttributeRule::WrittenDictionary
+            | AttributeRule::DictionaryHere
+            | AttributeRule::AttributesPart,
+        ) => 1,
+        Rule::Map(MapRule::WrittenMap) => 2,
+        Rule::Map(MapRule::DimensionNames | MapRule::WrittenSymbolNames | MapRule::InBrackets) => 1,
+        Rule::Arith(ArithRule::WrittenOverflow) => 1,
+        Rule::Affine(rule) => affine::need(rule),
+        Rule::Subscript(SubscriptRule::SymbolValue | SubscriptRule::SubscriptInBrackets) => 1,
+        _ => 0,
+    }
+}
+
+/// Whether an expression begins with a row, so that the count of its signs begins at 0.
+pub fn begins_expression(rule: Rule) -> bool {
+    matches!(
+        rule,
+        Rule::Map(MapRule::WholeExpression) | Rule::Subscript(SubscriptRule::WholeSubscript)
+    )
+}
+
+/// Whether a row begins with a sign or word that the limit on signs counts.
+pub fn counts_sign(rule: Rule) -> bool {
+    matches!(
+        rule,
+        Rule::Map(
+            MapRule::PlusTerm
+                | MapRule::MinusTerm
+                | MapRule::TimesFactor
+                | MapRule::DivisionFactor
+                | MapRule::MinusFactor
+                | MapRule::DivisionName
+        ) | Rule::Subscript(
+            SubscriptRule::PlusSubscriptTerm
+                | SubscriptRule::MinusSubscriptTerm
+                | SubscriptRule::TimesSubscriptFactor
+                | SubscriptRule::DivisionSubscriptFactor
+                | SubscriptRule::MinusSubscriptFactor
+        )
+    )
+}

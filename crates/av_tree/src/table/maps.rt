@@ -1,0 +1,242 @@
+//! The rows of maps and their expressions.
+
+ghost use Rattle.std.specs.Prelude.{◌≡◌};
+ghost use Rattle.av_tree.specs.rows.MapRows.{symbols_of};
+ghost use Rattle.av_tree.specs.Table.{name_of};
+
+use super::{Class, Keyword, Name, Rule, Symbol, Test};
+use av_lex::Sign;
+
+/// The names of maps and their expressions.
+#[derive(Clone, Copy)]
+pub enum MapName {
+    AffineMap,
+    Parameters,
+    SymbolNames,
+    Words,
+    MoreWords,
+    Expressions,
+    MoreExpressions,
+    Expression,
+    Sum,
+    Term,
+    Product,
+    Factor,
+    Negated,
+    Base,
+}
+
+/// The rows of maps and their expressions, each with its symbols.
+#[derive(Clone, Copy)]
+pub enum MapRule {
+    /// AffineMap: `'affine_map' '<' Parameters '->' '(' Expressions ')' '>'`
+    WrittenMap,
+    /// Parameters: `'(' Words ')' SymbolNames`
+    DimensionNames,
+    /// SymbolNames: nothing
+    NoSymbolNames,
+    /// SymbolNames: `'[' Words ']'`
+    WrittenSymbolNames,
+    /// Words: nothing
+    NoWords,
+    /// Words: `Word MoreWords`
+    FirstWord,
+    /// MoreWords: nothing
+    NoMoreWords,
+    /// MoreWords: `',' Word MoreWords`
+    NextWord,
+    /// Expressions: nothing
+    NoExpressions,
+    /// Expressions: `Expression MoreExpressions`
+    FirstExpression,
+    /// MoreExpressions: nothing
+    NoMoreExpressions,
+    /// MoreExpressions: `',' Expression MoreExpressions`
+    NextExpression,
+    /// Expression: `Term Sum`
+    WholeExpression,
+    /// Sum: nothing
+    NoMoreTerms,
+    /// Sum: `'+' Term Sum`
+    PlusTerm,
+    /// Sum: `'-' Term Sum`
+    MinusTerm,
+    /// Term: `Factor Product`
+    WholeTerm,
+    /// Product: nothing
+    NoMoreFactors,
+    /// Product: `'*' Factor Product`
+    TimesFactor,
+    /// Product: `Division Factor Product`
+    DivisionFactor,
+    /// Factor: `Number`
+    NumberFactor,
+    /// Factor: `Base`
+    PlainFactor,
+    /// Factor: `'-' Negated`
+    MinusFactor,
+    /// Negated: `Number`
+    NegativeNumber,
+    /// Negated: `Base`
+    NegatedBase,
+    /// Base: `Parameter`
+    ParameterName,
+    /// Base: `Division`
+    DivisionName,
+    /// Base: `'(' Term Sum ')'`
+    InBrackets,
+}
+
+pub(super) fn symbols(rule: MapRule) -> &'static [Symbol]
+    ensures { result.now ≡ symbols_of rule }
+{
+    match rule {
+        MapRule::WrittenMap => &[
+            Symbol::Word(Keyword::AffineMap),
+            Symbol::Sign(Sign::OpenAngle),
+            Symbol::Rows(Name::Map(MapName::Parameters)),
+            Symbol::Sign(Sign::Arrow),
+            Symbol::Sign(Sign::OpenRound),
+            Symbol::Rows(Name::Map(MapName::Expressions)),
+            Symbol::Sign(Sign::CloseRound),
+            Symbol::Sign(Sign::CloseAngle),
+        ],
+        MapRule::DimensionNames => &[
+            Symbol::Sign(Sign::OpenRound),
+            Symbol::Rows(Name::Map(MapName::Words)),
+            Symbol::Sign(Sign::CloseRound),
+            Symbol::Rows(Name::Map(MapName::SymbolNames)),
+        ],
+        MapRule::NoSymbolNames => &[],
+        MapRule::WrittenSymbolNames => &[
+            Symbol::Sign(Sign::OpenSquare),
+            Symbol::Rows(Name::Map(MapName::Words)),
+            Symbol::Sign(Sign::CloseSquare),
+        ],
+        MapRule::NoWords => &[],
+        MapRule::FirstWord => &[
+            Symbol::Token(Test::Word),
+            Symbol::Rows(Name::Map(MapName::MoreWords)),
+        ],
+        MapRule::NoMoreWords => &[],
+        MapRule::NextWord => &[
+            Symbol::Sign(Sign::Comma),
+            Symbol::Token(Test::Word),
+            Symbol::Rows(Name::Map(MapName::MoreWords)),
+        ],
+        MapRule::NoExpressions => &[],
+        MapRule::FirstExpression => &[
+            Symbol::Rows(Name::Map(MapName::Expression)),
+            Symbol::Rows(Name::Map(MapName::MoreExpressions)),
+        ],
+        MapRule::NoMoreExpressions => &[],
+        MapRule::NextExpression => &[
+            Symbol::Sign(Sign::Comma),
+            Symbol::Rows(Name::Map(MapName::Expression)),
+            Symbol::Rows(Name::Map(MapName::MoreExpressions)),
+        ],
+        MapRule::WholeExpression => &[
+            Symbol::Rows(Name::Map(MapName::Term)),
+            Symbol::Rows(Name::Map(MapName::Sum)),
+        ],
+        MapRule::NoMoreTerms => &[],
+        MapRule::PlusTerm => &[
+            Symbol::Sign(Sign::Plus),
+            Symbol::Rows(Name::Map(MapName::Term)),
+            Symbol::Rows(Name::Map(MapName::Sum)),
+        ],
+        MapRule::MinusTerm => &[
+            Symbol::Sign(Sign::Minus),
+            Symbol::Rows(Name::Map(MapName::Term)),
+            Symbol::Rows(Name::Map(MapName::Sum)),
+        ],
+        MapRule::WholeTerm => &[
+            Symbol::Rows(Name::Map(MapName::Factor)),
+            Symbol::Rows(Name::Map(MapName::Product)),
+        ],
+        MapRule::NoMoreFactors => &[],
+        MapRule::TimesFactor => &[
+            Symbol::Sign(Sign::Star),
+            Symbol::Rows(Name::Map(MapName::Factor)),
+            Symbol::Rows(Name::Map(MapName::Product)),
+        ],
+        MapRule::DivisionFactor => &[
+            Symbol::Token(Test::Division),
+            Symbol::Rows(Name::Map(MapName::Factor)),
+            Symbol::Rows(Name::Map(MapName::Product)),
+        ],
+        MapRule::NumberFactor => &[Symbol::Token(Test::Number)],
+        MapRule::PlainFactor => &[Symbol::Rows(Name::Map(MapName::Base))],
+        MapRule::MinusFactor => &[
+            Symbol::Sign(Sign::Minus),
+            Symbol::Rows(Name::Map(MapName::Negated)),
+        ],
+        MapRule::NegativeNumber => &[Symbol::Token(Test::Number)],
+        MapRule::NegatedBase => &[Symbol::Rows(Name::Map(MapName::Base))],
+        MapRule::ParameterName => &[Symbol::Token(Test::Parameter)],
+        MapRule::DivisionName => &[Symbol::Token(Test::Division)],
+        MapRule::InBrackets => &[
+            Symbol::Sign(Sign::OpenRound),
+            Symbol::Rows(Name::Map(MapName::Term)),
+            Symbol::Rows(Name::Map(MapName::Sum)),
+            Symbol::Sign(Sign::CloseRound),
+        ],
+    }
+}
+
+pub(super) fn choose(name: MapName, class: Class) -> Rule
+    ensures { name_of result ≡ Name.Map name }
+{
+    match name {
+        MapName::AffineMap => Rule::Map(MapRule::WrittenMap),
+        MapName::Parameters => Rule::Map(MapRule::DimensionNames),
+        MapName::SymbolNames => match class {
+            Class::Sign(Sign::OpenSquare) => Rule::Map(MapRule::WrittenSymbolNames),
+            _ => Rule::Map(MapRule::NoSymbolNames),
+        },
+        MapName::Words => match class {
+            Class::Sign(Sign::CloseRound) | Class::Sign(Sign::CloseSquare) => Rule::Map(
+                MapRule::NoWords,
+            ),
+            _ => Rule::Map(MapRule::FirstWord),
+        },
+        MapName::MoreWords => match class {
+            Class::Sign(Sign::Comma) => Rule::Map(MapRule::NextWord),
+            _ => Rule::Map(MapRule::NoMoreWords),
+        },
+        MapName::Expressions => match class {
+            Class::Sign(Sign::CloseRound) => Rule::Map(MapRule::NoExpressions),
+            _ => Rule::Map(MapRule::FirstExpression),
+        },
+        MapName::MoreExpressions => match class {
+            Class::Sign(Sign::Comma) => Rule::Map(MapRule::NextExpression),
+            _ => Rule::Map(MapRule::NoMoreExpressions),
+        },
+        MapName::Expression => Rule::Map(MapRule::WholeExpression),
+        MapName::Sum => match class {
+            Class::Sign(Sign::Plus) => Rule::Map(MapRule::PlusTerm),
+            Class::Sign(Sign::Minus) => Rule::Map(MapRule::MinusTerm),
+            _ => Rule::Map(MapRule::NoMoreTerms),
+        },
+        MapName::Term => Rule::Map(MapRule::WholeTerm),
+        MapName::Product => match class {
+            Class::Sign(Sign::Star) => Rule::Map(MapRule::TimesFactor),
+            Class::Word(Keyword::Division) => Rule::Map(MapRule::DivisionFactor),
+            _ => Rule::Map(MapRule::NoMoreFactors),
+        },
+        MapName::Factor => match class {
+            Class::Zero | Class::Positive => Rule::Map(MapRule::NumberFactor),
+            Class::Sign(Sign::Minus) => Rule::Map(MapRule::MinusFactor),
+            _ => Rule::Map(MapRule::PlainFactor),
+        },
+        MapName::Negated => match class {
+            Class::Zero | Class::Positive => Rule::Map(MapRule::NegativeNumber),
+            _ => Rule::Map(MapRule::NegatedBase),
+        },
+        MapName::Base => match class {
+            Class::Word(Keyword::Division) => Rule::Map(MapRule::DivisionName),
+            Class::Sign(Sign::OpenRound) => Rule::Map(MapRule::InBrackets),
+            _ => Rule::Map(MapRule::ParameterName),
+        },
+    }
+}
