@@ -13,8 +13,10 @@ mod memory;
 mod plain;
 mod standard;
 mod store;
+mod whole;
 
 pub use device::{Failed, Sink, Source};
 pub use memory::{MemSink, MemSource};
 pub use plain::{PlainSink, PlainSource};
 pub use standard::{StdSink, StdSource};
+pub use whole::{read_full, write_all};
