@@ -20,3 +20,6 @@ pub use memory::{MemSink, MemSource};
 pub use plain::{PlainSink, PlainSource};
 pub use standard::{StdSink, StdSource};
 pub use whole::{read_full, write_all};
+
+#[cfg(test)]
+mod tests;
