@@ -1,0 +1,11 @@
+-- What contracts see of a source over one of std's readers.
+use Rattle.std.specs.Prelude.{ℕ}
+use Rattle.av_io.specs.declared.standard.StdSource.{StdSource}
+
+-- the reader
+abbrev pub reader_of : {R : Type 0} → StdSource R → R
+reader_of source = source.reader
+
+-- how many reads have failed; it stands still at 2 ^ 64 - 1
+abbrev pub fault_count : {R : Type 0} → StdSource R → ℕ
+fault_count source = source.faults.number
