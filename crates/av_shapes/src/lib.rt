@@ -9,6 +9,8 @@ ghost use Rattle.av_shapes.specs.Places.{IsScale, IsWithin, extents, lanes, plac
 ghost use Rattle.av_shapes.specs.Order.{CanPermute, permuted_sizes};
 
 mod laws;
+#[cfg(test)]
+mod tests;
 
 pub use laws::places_are_lanes;
 use smallvec::SmallVec;
@@ -138,6 +140,22 @@ impl Shape {
             place = place * self.extent(dimension, scale) + at[dimension];
         }
         place
+    }
+
+    /// Whether this is a permutation of the dimensions 0 to the rank less one that leaves a scalable dimension where it is.
+    pub fn can_permute(&self, order: &[u8]) -> bool
+        ensures { IsTrue result ↔ CanPermute self.now order.now }
+    {
+        let rank = self.rank();
+        if order.len() != rank {
+            return false;
+        }
+        for dimension in 0..rank {
+            if !order.contains(&(dimension as u8)) {
+                return false;
+            }
+        }
+        !self.scalable || order[rank - 1] as usize == rank - 1
     }
 
     /// The shape with its dimensions in another order: dimension `d` is dimension `order[d]` of this one. It takes no memory.
