@@ -1,5 +1,5 @@
 -- How a `Shape` keeps its sizes. No public clause cites this module.
-use Rattle.av_shapes.specs.ShapeView.{ShapeView, AreSizes}
+use Rattle.av_shapes.specs.Shape.{ShapeView, AreSizes}
 use Rattle.av_shapes.specs.declared.Shape.TheInside.{Inside}
 
 -- the sizes are the elements of the short list, and its room is left out

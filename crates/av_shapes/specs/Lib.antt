@@ -1,3 +1,4 @@
-pub mod ShapeView
+pub mod Shape
 pub mod Inside
-pub mod Equal
+pub mod Places
+pub mod Order

@@ -1,0 +1,4 @@
+pub mod Products
+pub mod PlaceLemmas
+pub mod ExtentLemmas
+pub mod OrderLemmas
