@@ -9,7 +9,8 @@ use crate::types::{CastOp, Width};
 /// cast is defined for all widths: to a narrower one it keeps the low bits.
 pub fn cast(op: CastOp, from: Width, to: Width, a: u64) -> u64
     requires { IsPattern from a }
-    ensures { result ≡ cast_of op from to a }
+    ensures value { result ≡ cast_of op from to a }
+    ensures pattern { IsPattern to result }
 {
     match op {
         CastOp::Extsi | CastOp::IndexCast => wrap(to, i128::from(signed(from, a))),

@@ -88,7 +88,8 @@ fn ceil_quotient(x: i64, y: i64) -> i128
 pub fn divide(width: Width, a: u64, b: u64) -> Result<u64, DivideTrap>
     requires dividend { IsPattern width a }
     requires divisor { IsPattern width b }
-    ensures { result ≡ signed_division int_div (bits_of width) a b }
+    ensures value { result ≡ signed_division int_div (bits_of width) a b }
+    ensures pattern { IfOk result (IsPattern width) }
 {
     let (x, y) = signed_operands(width, a, b)?;
     Ok(wrap(width, i128::from(quotient(x, y))))
@@ -98,7 +99,8 @@ pub fn divide(width: Width, a: u64, b: u64) -> Result<u64, DivideTrap>
 pub fn remainder(width: Width, a: u64, b: u64) -> Result<u64, DivideTrap>
     requires dividend { IsPattern width a }
     requires divisor { IsPattern width b }
-    ensures { result ≡ signed_division int_rem (bits_of width) a b }
+    ensures value { result ≡ signed_division int_rem (bits_of width) a b }
+    ensures pattern { IfOk result (IsPattern width) }
 {
     let (x, y) = signed_operands(width, a, b)?;
     Ok(wrap(width, i128::from(rest(x, y))))
@@ -108,7 +110,8 @@ pub fn remainder(width: Width, a: u64, b: u64) -> Result<u64, DivideTrap>
 pub fn floor_divide(width: Width, a: u64, b: u64) -> Result<u64, DivideTrap>
     requires dividend { IsPattern width a }
     requires divisor { IsPattern width b }
-    ensures { result ≡ signed_division floor_div (bits_of width) a b }
+    ensures value { result ≡ signed_division floor_div (bits_of width) a b }
+    ensures pattern { IfOk result (IsPattern width) }
 {
     let (x, y) = signed_operands(width, a, b)?;
     Ok(wrap(width, floor_quotient(x, y)))
@@ -118,7 +121,8 @@ pub fn floor_divide(width: Width, a: u64, b: u64) -> Result<u64, DivideTrap>
 pub fn ceil_divide(width: Width, a: u64, b: u64) -> Result<u64, DivideTrap>
     requires dividend { IsPattern width a }
     requires divisor { IsPattern width b }
-    ensures { result ≡ signed_division ceil_div (bits_of width) a b }
+    ensures value { result ≡ signed_division ceil_div (bits_of width) a b }
+    ensures pattern { IfOk result (IsPattern width) }
 {
     let (x, y) = signed_operands(width, a, b)?;
     Ok(wrap(width, ceil_quotient(x, y)))

@@ -1,4 +1,5 @@
 ghost use Rattle.std.specs.Prelude.{◌≡◌};
+ghost use Rattle.av_bits.specs.Pattern.{IsPattern};
 ghost use Rattle.av_bits.specs.Kinds.{neutral_of, operation_of};
 
 use crate::pattern::{all_ones, top_bit};
@@ -23,7 +24,8 @@ pub fn op_of_kind(kind: Kind9) -> BinOp
 
 /// The pattern that leaves each pattern of the width as it is when the kind combines them.
 pub fn neutral(kind: Kind9, width: Width) -> u64
-    ensures { result ≡ neutral_of kind width }
+    ensures value { result ≡ neutral_of kind width }
+    ensures pattern { IsPattern width result }
 {
     match kind {
         Kind9::Add | Kind9::Or | Kind9::Xor | Kind9::Maxui => 0,

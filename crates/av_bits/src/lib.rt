@@ -19,3 +19,6 @@ pub use kinds::{neutral, op_of_kind};
 pub use operations::binary;
 pub use pattern::{signed, wrap};
 pub use types::{BinOp, CastOp, DivideTrap, Kind9, Pred, Width};
+
+#[cfg(test)]
+mod tests;

@@ -1,4 +1,4 @@
-ghost use Rattle.std.specs.Prelude.{◌≡◌};
+ghost use Rattle.std.specs.Prelude.{◌≡◌, IfOk};
 ghost use Rattle.av_bits.specs.Pattern.{IsPattern};
 ghost use Rattle.av_bits.specs.Scalar.{binary_of};
 
@@ -19,7 +19,8 @@ use crate::types::{BinOp, DivideTrap, Width};
 pub fn binary(op: BinOp, width: Width, a: u64, b: u64) -> Result<u64, DivideTrap>
     requires first { IsPattern width a }
     requires second { IsPattern width b }
-    ensures { result ≡ binary_of op width a b }
+    ensures value { result ≡ binary_of op width a b }
+    ensures pattern { IfOk result (IsPattern width) }
 {
     match op {
         BinOp::Addi => Ok(wrap(width, i128::from(a) + i128::from(b))),

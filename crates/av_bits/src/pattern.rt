@@ -2,6 +2,7 @@ ghost use Rattle.std.specs.Prelude.{◌≡◌, ◌-◌, ◌%◌, ◌^◌};
 ghost use Rattle.av_bits.specs.Pattern.{bits_of, IsPattern, pattern_of, signed_value};
 
 use crate::types::Width;
+use num_traits::cast;
 
 /// The number of bits of the width.
 pub fn bits(width: Width) -> u32
@@ -44,16 +45,18 @@ pub fn top_bit(width: Width) -> u64
 
 // The low bits of `x`, as many as the width has.
 pub fn low_bits(width: Width, x: u64) -> u64
-    ensures { result ≡ x % 2 ^ bits_of width }
+    ensures value { result ≡ x % 2 ^ bits_of width }
+    ensures pattern { IsPattern width result }
 {
     x & all_ones(width)
 }
 
 /// `x` modulo 2 to the width: the pattern that stands for it.
 pub fn wrap(width: Width, x: i128) -> u64
-    ensures { result ≡ pattern_of (bits_of width) x }
+    ensures value { result ≡ pattern_of (bits_of width) x }
+    ensures pattern { IsPattern width result }
 {
-    (x.cast_unsigned() & u128::from(all_ones(width))) as u64
+    cast(x.cast_unsigned() & u128::from(all_ones(width))).unwrap()
 }
 
 /// The signed value of the pattern `p`, in two's complement.
@@ -61,9 +64,10 @@ pub fn signed(width: Width, p: u64) -> i64
     requires { IsPattern width p }
     ensures { result ≡ signed_value (bits_of width) p }
 {
+    let value = i128::from(p);
     if p < top_bit(width) {
-        p as i64
+        cast(value).unwrap()
     } else {
-        (i128::from(p) - i128::from(all_ones(width)) - 1) as i64
+        cast(value - i128::from(all_ones(width)) - 1).unwrap()
     }
 }
