@@ -4,6 +4,21 @@
 //! A pattern of a width is a `u64` below 2 to the width. Nothing here takes memory.
 #![tactic(auto)]
 
+mod casts;
+mod comparisons;
+mod divisions;
+mod kinds;
+mod operations;
+mod pattern;
+mod shifts;
 mod types;
 
+pub use casts::cast;
+pub use comparisons::compare;
+pub use kinds::{neutral, op_of_kind};
+pub use operations::binary;
+pub use pattern::{signed, wrap};
 pub use types::{BinOp, CastOp, DivideTrap, Kind9, Pred, Width};
+
+#[cfg(test)]
+mod tests;
