@@ -1,0 +1,9 @@
+//! The tree of a list of tokens, by the rows of the format.
+//!
+//! A predictive machine derives the rows from the tokens, with one token ahead; the tree is then made
+//! from the rows, from the last one to the first.
+#![tactic(auto)]
+
+mod machine;
+
+pub use machine::{Event, Limits, Machine, Stop};
