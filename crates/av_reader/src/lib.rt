@@ -4,6 +4,9 @@
 //! from the rows, from the last one to the first.
 #![tactic(auto)]
 
+mod building;
 mod machine;
+mod reading;
 
 pub use machine::{Event, Limits, Machine, Stop};
+pub use reading::{LIMITS, ReadRefusal, read};

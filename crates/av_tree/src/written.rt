@@ -1,4 +1,7 @@
-use av_affine::{Held, Seq, Text};
+ghost use Rattle.std.specs.Prelude.{◌≡◌, IfOk};
+
+use av_affine::{Duplicate, Held, Seq, Text};
+use std::alloc::{AllocError, Global};
 
 /// A size of a memref as it is written, or a stride or an offset of its layout.
 #[derive(Clone, Copy, Debug, Drop, PartialEq)]
@@ -82,4 +85,61 @@ pub struct SetText {
     pub dims: Seq<Text>,
     pub syms: Seq<Text>,
     pub rows: Seq<RowText>,
+}
+
+impl Duplicate for LayoutText {
+    fn duplicate(&self, alloc: Global) -> Result<LayoutText, AllocError> {
+        Ok(LayoutText {
+            strides: self.strides.duplicate(alloc)?,
+            offset: self.offset,
+        })
+    }
+}
+
+impl Duplicate for TypeText {
+    fn duplicate(&self, alloc: Global) -> Result<TypeText, AllocError> {
+        copy_type(alloc, self)
+    }
+}
+
+fn copy_layout(alloc: Global, layout: &Option<LayoutText>) -> Result<Option<LayoutText>, AllocError>
+    ensures { IfOk result (λ c. c ≡ layout.now) }
+{
+    match layout {
+        Some(layout) => Ok(Some(layout.duplicate(alloc)?)),
+        None => Ok(None),
+    }
+}
+
+#[cycle(copying)]
+fn copy_type(alloc: Global, ty: &TypeText) -> Result<TypeText, AllocError>
+    ensures { IfOk result (λ c. c ≡ ty.now) }
+{
+    match ty {
+        TypeText::Scalar(name) => Ok(TypeText::Scalar(name.duplicate(alloc)?)),
+        TypeText::MemRef { sizes, elem, layout } => Ok(TypeText::MemRef {
+            sizes: sizes.duplicate(alloc)?,
+            elem: elem.duplicate(alloc)?,
+            layout: copy_layout(alloc, layout)?,
+        }),
+        TypeText::Vector { dims, elem } => Ok(TypeText::Vector {
+            dims: dims.duplicate(alloc)?,
+            elem: elem.duplicate(alloc)?,
+        }),
+        TypeText::Func { inputs, results } => Ok(TypeText::Func {
+            inputs: copy_types(alloc, inputs.as_slice())?,
+            results: copy_types(alloc, results.as_slice())?,
+        }),
+    }
+}
+
+#[cycle(copying)]
+fn copy_types(alloc: Global, types: &[TypeText]) -> Result<Seq<TypeText>, AllocError>
+    ensures { IfOk result (λ c. c ≡ types.now) }
+{
+    let mut copies = Seq::new(alloc);
+    for ty in types {
+        copies.push(copy_type(alloc, ty)?)?;
+    }
+    Ok(copies)
 }

@@ -1,0 +1,248 @@
+//! Rows of operations of the Affine dialect.
+
+use super::attributes::integer_of;
+use super::files::push_node;
+use super::regions::plain_node;
+use super::stack::{Fault, Stack, before, in_order, text_of};
+use super::subscripts::{Numbering, place_map};
+use super::value::{Carried, CarriedPair, Expression, MapUse, Value};
+use av_affine::{Duplicate, Seq, Text};
+use av_tree::table::AffineRule;
+use av_tree::{Attr, Body, BodyArg, ExprText, MapText, Named, Node, TypeText};
+use std::alloc::Global;
+
+pub(super) fn reduce(stack: &mut Stack, rule: AffineRule, place: u32) -> Result<(), Fault> {
+    match rule {
+        AffineRule::AffineFor => affine_for(stack, place),
+        AffineRule::AffineLoad => affine_load(stack, place),
+        AffineRule::AffineStore => affine_store(stack, place),
+        AffineRule::GreatestOf
+        | AffineRule::PlainLowerBound
+        | AffineRule::LeastOf
+        | AffineRule::PlainUpperBound
+        | AffineRule::MapBound
+        | AffineRule::WrittenIterArgs
+        | AffineRule::WrittenSymbolOperands => Ok(()),
+        AffineRule::NumberBound => number_bound(stack),
+        AffineRule::ValueBound => value_bound(stack),
+        AffineRule::NoStep => stack.push(Value::Number(1)),
+        AffineRule::WrittenStep => {
+            let step = integer_of(&stack.text()?, false);
+            stack.push(Value::Number(step))
+        }
+        AffineRule::NoIterArgs | AffineRule::NoCarried | AffineRule::NoMoreCarried => {
+            let pairs = Vec::new(stack.alloc());
+            let types = Vec::new(stack.alloc());
+            stack.push(Value::Carried(Carried { pairs, types }))
+        }
+        AffineRule::FirstCarried | AffineRule::NextCarried => carried(stack),
+        AffineRule::MapWritten => {
+            let map = stack.attr()?;
+            let mut operands = stack.texts()?;
+            operands.reverse();
+            stack.push(Value::MapUse(MapUse { map, operands }))
+        }
+        AffineRule::DimensionOperands => {
+            let mut dims = stack.texts()?;
+            let mut operands = stack.texts()?;
+            operands.append(&mut dims)?;
+            stack.push(Value::Texts(operands))
+        }
+        AffineRule::NoSymbolOperands => stack.push(Value::Texts(Vec::new(stack.alloc()))),
+    }
+}
+
+fn number_bound(stack: &mut Stack) -> Result<(), Fault> {
+    let alloc = stack.alloc();
+    let number = stack.number()?;
+    let mut results = Seq::new(alloc);
+    results.push(ExprText::Const(number))?;
+    let map = MapText {
+        dims: Seq::new(alloc),
+        syms: Seq::new(alloc),
+        results,
+    };
+    stack.push(Value::MapUse(MapUse {
+        map: Attr::Map(map),
+        operands: Vec::new(alloc),
+    }))
+}
+
+fn value_bound(stack: &mut Stack) -> Result<(), Fault> {
+    let alloc = stack.alloc();
+    let value = stack.text()?;
+    let mut syms = Seq::new(alloc);
+    syms.push(text_of(alloc, b"s0")?)?;
+    let mut results = Seq::new(alloc);
+    results.push(ExprText::Name(text_of(alloc, b"s0")?))?;
+    let map = MapText {
+        dims: Seq::new(alloc),
+        syms,
+        results,
+    };
+    stack.push(Value::MapUse(MapUse {
+        map: Attr::Map(map),
+        operands: before(value, Vec::new(alloc))?,
+    }))
+}
+
+fn carried(stack: &mut Stack) -> Result<(), Fault> {
+    let name = stack.text()?;
+    let init = stack.text()?;
+    let Carried { pairs, mut types } = stack.carried()?;
+    let ty = stack.ty()?;
+    types.push(ty)?;
+    stack.push(Value::Carried(Carried {
+        pairs: before(CarriedPair { name, init }, pairs)?,
+        types,
+    }))
+}
+
+fn affine_for(stack: &mut Stack, place: u32) -> Result<(), Fault> {
+    let alloc = stack.alloc();
+    let variable = stack.text()?;
+    let lower = stack.map_use()?;
+    let upper = stack.map_use()?;
+    let step = stack.number()?;
+    let carried = stack.carried()?;
+    let nodes = with_terminator(alloc, in_order(stack.nodes()?))?;
+    let mut node = plain_node(alloc, text_of(alloc, b"affine.for")?, place);
+    node.attrs = in_order(stack.entries()?);
+    node.properties = loop_properties(alloc, &lower, &upper, &carried, step)?;
+    node.properties
+        .push(named(alloc, b"lowerBoundMap", lower.map)?)?;
+    node.properties
+        .push(named(alloc, b"upperBoundMap", upper.map)?)?;
+    let mut args = Seq::new(alloc);
+    args.push(BodyArg {
+        name: variable,
+        ty: TypeText::Scalar(text_of(alloc, b"index")?),
+    })?;
+    bound_operands(&mut node, lower.operands)?;
+    bound_operands(&mut node, upper.operands)?;
+    carry(alloc, &mut node, &mut args, carried)?;
+    node.regions.push(Body { args, nodes })?;
+    push_node(stack, node)
+}
+
+// The step and the numbers of operands.
+fn loop_properties(
+    alloc: Global,
+    lower: &MapUse,
+    upper: &MapUse,
+    carried: &Carried,
+    step: i128,
+) -> Result<Seq<Named>, Fault> {
+    let mut numbers = Seq::new(alloc);
+    numbers.push(count(lower.operands.len()))?;
+    numbers.push(count(upper.operands.len()))?;
+    numbers.push(count(carried.pairs.len()))?;
+    let sizes = Attr::Array {
+        elem: TypeText::Scalar(text_of(alloc, b"i32")?),
+        numbers,
+    };
+    let step = Attr::Number {
+        value: step,
+        ty: TypeText::Scalar(text_of(alloc, b"index")?),
+    };
+    let mut properties = Seq::new(alloc);
+    properties.push(named(alloc, b"operandSegmentSizes", sizes)?)?;
+    properties.push(named(alloc, b"step", step)?)?;
+    Ok(properties)
+}
+
+fn count(n: usize) -> i128 {
+    i128::try_from(n).unwrap_or(i128::MAX)
+}
+
+fn named(alloc: Global, name: &[u8], value: Attr) -> Result<Named, Fault> {
+    Ok(Named {
+        name: text_of(alloc, name)?,
+        value,
+    })
+}
+
+fn bound_operands(node: &mut Node, operands: Vec<Text>) -> Result<(), Fault> {
+    for operand in operands {
+        node.operands.push(operand)?;
+        node.in_types.push(None)?;
+    }
+    Ok(())
+}
+
+// The initial values, the carried arguments and the types of the results.
+fn carry(
+    alloc: Global,
+    node: &mut Node,
+    args: &mut Seq<BodyArg>,
+    carried: Carried,
+) -> Result<(), Fault> {
+    let Carried { mut pairs, types } = carried;
+    for ty in types {
+        let pair = pairs.pop().ok_or(Fault::Misshapen)?;
+        node.operands.push(pair.init)?;
+        node.in_types.push(Some(ty.duplicate(alloc)?))?;
+        node.out_types.push(Some(ty.duplicate(alloc)?))?;
+        args.push(BodyArg {
+            name: pair.name,
+            ty,
+        })?;
+    }
+    Ok(())
+}
+
+// The operations of a loop, with its terminator where it is left out.
+fn with_terminator(alloc: Global, mut nodes: Seq<Node>) -> Result<Seq<Node>, Fault> {
+    let ended = match nodes.as_slice() {
+        [.., last] => is_terminator(last.name.as_slice()),
+        [] => false,
+    };
+    if !ended {
+        nodes.push(plain_node(alloc, text_of(alloc, b"affine.yield")?, 0))?;
+    }
+    Ok(nodes)
+}
+
+fn is_terminator(name: &[u8]) -> bool {
+    matches!(
+        name,
+        b"func.return" | b"affine.yield" | b"scf.yield" | b"vector.yield"
+    )
+}
+
+fn affine_load(stack: &mut Stack, place: u32) -> Result<(), Fault> {
+    let alloc = stack.alloc();
+    let buffer = stack.text()?;
+    let mut node = plain_node(alloc, text_of(alloc, b"affine.load")?, place);
+    access(stack, &mut node, buffer)?;
+    node.out_types.push(None)?;
+    push_node(stack, node)
+}
+
+fn affine_store(stack: &mut Stack, place: u32) -> Result<(), Fault> {
+    let alloc = stack.alloc();
+    let value = stack.text()?;
+    let buffer = stack.text()?;
+    let mut node = plain_node(alloc, text_of(alloc, b"affine.store")?, place);
+    node.operands.push(value)?;
+    node.in_types.push(None)?;
+    access(stack, &mut node, buffer)?;
+    push_node(stack, node)
+}
+
+// The buffer, subscripts, dictionary and type of an access.
+fn access(stack: &mut Stack, node: &mut Node, buffer: Text) -> Result<(), Fault> {
+    let alloc = stack.alloc();
+    let subscripts: Vec<Expression> = stack.expressions()?;
+    node.attrs = in_order(stack.entries()?);
+    let ty = stack.ty()?;
+    node.operands.push(buffer)?;
+    node.in_types.push(Some(ty))?;
+    let Numbering { map, operands } = place_map(alloc, subscripts)?;
+    for operand in operands {
+        node.operands.push(operand)?;
+        node.in_types.push(None)?;
+    }
+    node.properties.push(named(alloc, b"map", Attr::Map(map))?)?;
+    Ok(())
+}

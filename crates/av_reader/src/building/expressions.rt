@@ -1,0 +1,176 @@
+//! Rows of maps and expressions, and of subscripts, which are expressions with values for names.
+
+use super::attributes::{integer_of, text_before};
+use super::stack::{Fault, Stack, before, in_order};
+use super::value::{Expression, LeafKind, Operator, Parameters, Part, Value};
+use av_affine::{Held, Seq, Text};
+use av_tree::table::{MapRule, SubscriptRule};
+use av_tree::{Attr, ExprText, MapText};
+use std::alloc::Global;
+
+pub(super) fn reduce_map(stack: &mut Stack, rule: MapRule) -> Result<(), Fault> {
+    match rule {
+        MapRule::WrittenMap => written_map(stack),
+        MapRule::DimensionNames => {
+            let dims = stack.texts()?;
+            let syms = stack.texts()?;
+            stack.push(Value::Parameters(Parameters { dims, syms }))
+        }
+        MapRule::NoSymbolNames | MapRule::NoWords | MapRule::NoMoreWords => {
+            stack.push(Value::Texts(Vec::new(stack.alloc())))
+        }
+        MapRule::WrittenSymbolNames | MapRule::PlainFactor => Ok(()),
+        MapRule::FirstWord | MapRule::NextWord => text_before(stack),
+        MapRule::NoExpressions | MapRule::NoMoreExpressions => {
+            stack.push(Value::Expressions(Vec::new(stack.alloc())))
+        }
+        MapRule::FirstExpression | MapRule::NextExpression => expression_before(stack),
+        MapRule::WholeExpression | MapRule::WholeTerm | MapRule::InBrackets => joined(stack),
+        MapRule::NoMoreTerms | MapRule::NoMoreFactors => no_parts(stack),
+        MapRule::PlusTerm => part_before(stack, Operator::Add),
+        MapRule::MinusTerm => part_before(stack, Operator::Sub),
+        MapRule::TimesFactor => part_before(stack, Operator::Mul),
+        MapRule::DivisionFactor => division_before(stack),
+        MapRule::NumberFactor => constant(stack, false),
+        MapRule::NegativeNumber => constant(stack, true),
+        MapRule::MinusFactor => Ok(()),
+        MapRule::NegatedBase => negated(stack),
+        MapRule::ParameterName | MapRule::DivisionName => {
+            let name = stack.text()?;
+            let leaves = Vec::new(stack.alloc());
+            stack.push(Value::Expression(Expression {
+                expr: ExprText::Name(name),
+                leaves,
+            }))
+        }
+    }
+}
+
+pub(super) fn reduce_subscript(stack: &mut Stack, rule: SubscriptRule) -> Result<(), Fault> {
+    match rule {
+        SubscriptRule::NoSubscripts | SubscriptRule::NoMoreSubscripts => {
+            stack.push(Value::Expressions(Vec::new(stack.alloc())))
+        }
+        SubscriptRule::FirstSubscript | SubscriptRule::NextSubscript => expression_before(stack),
+        SubscriptRule::WholeSubscript
+        | SubscriptRule::WholeSubscriptTerm
+        | SubscriptRule::SubscriptInBrackets => joined(stack),
+        SubscriptRule::NoMoreSubscriptTerms | SubscriptRule::NoMoreSubscriptFactors => no_parts(
+            stack,
+        ),
+        SubscriptRule::PlusSubscriptTerm => part_before(stack, Operator::Add),
+        SubscriptRule::MinusSubscriptTerm => part_before(stack, Operator::Sub),
+        SubscriptRule::TimesSubscriptFactor => part_before(stack, Operator::Mul),
+        SubscriptRule::DivisionSubscriptFactor => division_before(stack),
+        SubscriptRule::NumberSubscriptFactor => constant(stack, false),
+        SubscriptRule::NegativeSubscriptNumber => constant(stack, true),
+        SubscriptRule::PlainSubscriptFactor | SubscriptRule::MinusSubscriptFactor => Ok(()),
+        SubscriptRule::NegatedSubscriptBase => negated(stack),
+        SubscriptRule::DimensionValue => leaf(stack, LeafKind::Dimension),
+        SubscriptRule::SymbolValue => leaf(stack, LeafKind::Symbol),
+    }
+}
+
+fn written_map(stack: &mut Stack) -> Result<(), Fault> {
+    let parameters = stack.parameters()?;
+    let expressions = stack.expressions()?;
+    let map = MapText {
+        dims: in_order(parameters.dims),
+        syms: in_order(parameters.syms),
+        results: results_of(stack.alloc(), expressions)?,
+    };
+    stack.push(Value::Attr(Attr::Map(map)))
+}
+
+// The expressions alone, in the order of the text.
+fn results_of(alloc: Global, mut expressions: Vec<Expression>) -> Result<Seq<ExprText>, Fault> {
+    let mut results = Seq::new(alloc);
+    while let Some(expression) = expressions.pop() {
+        results.push(expression.expr)?;
+    }
+    Ok(results)
+}
+
+fn expression_before(stack: &mut Stack) -> Result<(), Fault> {
+    let expression = stack.expression()?;
+    let others = stack.expressions()?;
+    stack.push(Value::Expressions(before(expression, others)?))
+}
+
+fn no_parts(stack: &mut Stack) -> Result<(), Fault> {
+    stack.push(Value::Parts(Vec::new(stack.alloc())))
+}
+
+fn part_before(stack: &mut Stack, operator: Operator) -> Result<(), Fault> {
+    let right = stack.expression()?;
+    let others = stack.parts()?;
+    stack.push(Value::Parts(before(Part { operator, right }, others)?))
+}
+
+fn division_before(stack: &mut Stack) -> Result<(), Fault> {
+    let operator = division(&stack.text()?);
+    part_before(stack, operator)
+}
+
+fn division(word: &Text) -> Operator {
+    match word.as_slice() {
+        b"floordiv" => Operator::Floor,
+        b"ceildiv" => Operator::Ceil,
+        _ => Operator::Mod,
+    }
+}
+
+fn constant(stack: &mut Stack, negative: bool) -> Result<(), Fault> {
+    let value = integer_of(&stack.text()?, negative);
+    let leaves = Vec::new(stack.alloc());
+    stack.push(Value::Expression(Expression {
+        expr: ExprText::Const(value),
+        leaves,
+    }))
+}
+
+fn negated(stack: &mut Stack) -> Result<(), Fault> {
+    let Expression { expr, leaves } = stack.expression()?;
+    let held = Held::new(stack.alloc(), expr)?;
+    stack.push(Value::Expression(Expression {
+        expr: ExprText::Neg(held),
+        leaves,
+    }))
+}
+
+fn leaf(stack: &mut Stack, kind: LeafKind) -> Result<(), Fault> {
+    let name = stack.text()?;
+    let leaves = before(kind, Vec::new(stack.alloc()))?;
+    stack.push(Value::Expression(Expression {
+        expr: ExprText::Name(name),
+        leaves,
+    }))
+}
+
+// The expression on top with the parts under it, joined from the left.
+fn joined(stack: &mut Stack) -> Result<(), Fault> {
+    let alloc = stack.alloc();
+    let mut whole = stack.expression()?;
+    let mut parts = stack.parts()?;
+    while let Some(part) = parts.pop() {
+        whole = join(alloc, whole, part)?;
+    }
+    stack.push(Value::Expression(whole))
+}
+
+fn join(alloc: Global, left: Expression, part: Part) -> Result<Expression, Fault> {
+    let Expression { expr, mut leaves } = left;
+    let mut more = part.right.leaves;
+    leaves.append(&mut more)?;
+    let left = Held::new(alloc, expr)?;
+    let right = Held::new(alloc, part.right.expr)?;
+    let expr = match part.operator {
+        Operator::Add => ExprText::Add(left, right),
+        Operator::Sub => ExprText::Sub(left, right),
+        Operator::Mul => ExprText::Mul(left, right),
+        Operator::Mod => ExprText::Mod(left, right),
+        Operator::Floor => ExprText::Floor(left, right),
+        Operator::Ceil => ExprText::Ceil(left, right),
+    };
+    Ok(Expression { expr, leaves })
+}
