@@ -1,8 +1,9 @@
 //! Where the program's bytes come from and go to: sources and sinks, in memory and of the system.
 //!
-//! A [`Source`] gives bytes in pieces, a [`Sink`] takes them. Each counts its faults, so that a caller's contract can say
-//! that a fault is reported only where one occurred. The devices in memory tell all that they hold, which makes
-//! contracts about them exact; the system's tell nothing.
+//! A [`Source`] gives bytes in pieces, a [`Sink`] takes them. Each counts its faults, so that a
+//! caller's contract can say that a fault is reported only where one occurred. The devices in
+//! memory tell all that they hold, which makes contracts about them exact; the system's tell
+//! nothing.
 #![tactic(auto)]
 
 mod calls;

@@ -1,8 +1,8 @@
 //! Devices in memory that fail at listed calls.
-ghost use Rattle.std.specs.Prelude.{◌≡◌, ◌<◌, ◌≤◌, ◌^◌, ◌-◌, ◌++◌, ◌↔◌, [], Some, length, min, max, take, drop, is_some, is_err, IsErr, IfOk, OnOk, OnErr, Contains, if◌then◌else◌};
+ghost use Rattle.std.specs.Prelude.{◌≡◌, ◌<◌, ◌≤◌, ◌^◌, ◌-◌, ◌++◌, ◌↔◌, [], Some, length, min, max, take, drop, is_some, IsErr, IfOk, OnOk, OnErr, Contains};
 ghost use Rattle.std.specs.Io.{ReadsAtMost, WritesAtMost};
 ghost use Rattle.std.specs.Io.KnownBytes.{ReadConsumes, WriteAppends};
-ghost use Rattle.av_io.specs.Devices.{HasCause, HasRoom, WriteUsesRoom, counted};
+ghost use Rattle.av_io.specs.Devices.{HasCause, HasRoom, WriteUsesRoom, counted, faults_after};
 
 use crate::calls::Calls;
 use crate::device::{Failed, Sink, Source};
@@ -20,8 +20,9 @@ pub struct MemSource {
 impl MemSource {
     ghost use Rattle.av_io.specs.MemSource.{bytes_left, most_bytes, calls_made, failing_calls, fault_count};
 
-    /// A source of these bytes, which gives at most `most` of them in one call. The calls of `read` are numbered from 0,
-    /// and those that `fails` lists fail. A call's number is at most `u64::MAX`, which all later calls have too.
+    /// A source of these bytes, which gives at most `most` of them in one call. The calls of
+    /// `read` are numbered from 0, and those that `fails` lists fail. The numbers stand still at
+    /// `u64::MAX`, which all later calls have too.
     pub fn new(bytes: Vec<u8>, most: usize, fails: Vec<u64>) -> MemSource
         requires { 0 < most }
         ensures left { bytes_left result ≡ bytes.items }
@@ -46,15 +47,18 @@ impl Source for MemSource {
 
     ghost count_fits = { λ source. source.calls.faults.fits };
 
-    /// Fails where this call is listed, and otherwise reads as many bytes as are left, fit `into` and may come in one call.
+    /// Fails where this call is listed, and otherwise reads as many bytes as are left, fit `into`
+    /// and may come in one call.
     fn read(&mut self, into: &mut [u8]) -> Result<usize, Failed>
         ensures bound { ReadsAtMost result into.new }
-        ensures bytes { ReadConsumes (Some (bytes_left self.old)) (Some (bytes_left self.new)) result into.new }
+        ensures bytes { ReadConsumes (Some (bytes_left self.old)) (Some (bytes_left self.new))
+            result into.new }
         ensures cause { HasCause (fault_count self.old) (fault_count self.new) result }
         ensures listed { IsErr result ↔ Contains (failing_calls self.old) (calls_made self.old) }
-        ensures count { IfOk result (λ n. n ≡ min (most_bytes self.old) (min (length into.old) (length (bytes_left self.old)))) }
+        ensures count { IfOk result (λ n. n ≡
+            min (most_bytes self.old) (min (length into.old) (length (bytes_left self.old)))) }
         ensures calls { calls_made self.new ≡ counted (calls_made self.old) }
-        ensures faults { fault_count self.new ≡ (if is_err result then counted (fault_count self.old) else fault_count self.old) }
+        ensures faults { fault_count self.new ≡ faults_after result (fault_count self.old) }
         ensures fails { failing_calls self.new ≡ failing_calls self.old }
         ensures most { most_bytes self.new ≡ most_bytes self.old }
     {
@@ -75,9 +79,9 @@ pub struct MemSink {
 impl MemSink {
     ghost use Rattle.av_io.specs.MemSink.{bytes_held, bytes_free, most_bytes, calls_made, failing_calls, fault_count};
 
-    /// A sink that holds nothing and has no room, and takes at most `most` bytes in one call. The calls of `write` are
-    /// numbered from 0, and those that `fails` lists fail. A call's number is at most `u64::MAX`, which all later calls
-    /// have too.
+    /// A sink that holds nothing and has no room, and takes at most `most` bytes in one call. The
+    /// calls of `write` are numbered from 0, and those that `fails` lists fail. The numbers stand
+    /// still at `u64::MAX`, which all later calls have too.
     pub fn new(alloc: Global, most: usize, fails: Vec<u64>) -> MemSink
         requires { 0 < most }
         ensures held { bytes_held result ≡ [] }
@@ -126,19 +130,21 @@ impl Sink for MemSink {
         self.store.reserve(n)
     }
 
-    /// Fails where this call is listed, and otherwise takes as many bytes as the piece has and may be taken in one call.
-    /// It takes no memory.
+    /// Fails where this call is listed, and otherwise takes as many bytes as the piece has and may
+    /// be taken in one call. It takes no memory.
     fn write(&mut self, piece: &[u8]) -> Result<usize, Failed>
         requires { HasRoom (Some (bytes_free self.old)) (length piece.now) }
         ensures bound { WritesAtMost result piece.now }
         ensures some { IfOk result (λ n. 0 < length piece.now → 0 < n) }
-        ensures bytes { WriteAppends (Some (bytes_held self.old)) (Some (bytes_held self.new)) result piece.now }
-        ensures room { WriteUsesRoom (Some (bytes_free self.old)) (Some (bytes_free self.new)) result }
+        ensures bytes { WriteAppends (Some (bytes_held self.old)) (Some (bytes_held self.new))
+            result piece.now }
+        ensures room { WriteUsesRoom (Some (bytes_free self.old)) (Some (bytes_free self.new))
+            result }
         ensures cause { HasCause (fault_count self.old) (fault_count self.new) result }
         ensures listed { IsErr result ↔ Contains (failing_calls self.old) (calls_made self.old) }
         ensures count { IfOk result (λ n. n ≡ min (most_bytes self.old) (length piece.now)) }
         ensures calls { calls_made self.new ≡ counted (calls_made self.old) }
-        ensures faults { fault_count self.new ≡ (if is_err result then counted (fault_count self.old) else fault_count self.old) }
+        ensures faults { fault_count self.new ≡ faults_after result (fault_count self.old) }
         ensures fails { failing_calls self.new ≡ failing_calls self.old }
         ensures most { most_bytes self.new ≡ most_bytes self.old }
     {

@@ -43,10 +43,12 @@ impl Source for PlainSource {
     /// Reads as many bytes as are left, fit `into` and may come in one call.
     fn read(&mut self, into: &mut [u8]) -> Result<usize, Failed>
         ensures bound { ReadsAtMost result into.new }
-        ensures bytes { ReadConsumes (Some (bytes_left self.old)) (Some (bytes_left self.new)) result into.new }
+        ensures bytes { ReadConsumes (Some (bytes_left self.old)) (Some (bytes_left self.new))
+            result into.new }
         ensures cause { HasCause 0 0 result }
         ensures never_fails { IsOk result }
-        ensures count { result ≡ Ok (min (most_bytes self.old) (min (length into.old) (length (bytes_left self.old)))) }
+        ensures count { result ≡
+            Ok (min (most_bytes self.old) (min (length into.old) (length (bytes_left self.old)))) }
         ensures most { most_bytes self.new ≡ most_bytes self.old }
     {
         Ok(self.feed.read(into))
@@ -109,8 +111,10 @@ impl Sink for PlainSink {
         ensures count { result ≡ Ok (min (most_bytes self.old) (length piece.now)) }
         ensures never_fails { IsOk result }
         ensures bound { WritesAtMost result piece.now }
-        ensures bytes { WriteAppends (Some (bytes_held self.old)) (Some (bytes_held self.new)) result piece.now }
-        ensures room { WriteUsesRoom (Some (bytes_free self.old)) (Some (bytes_free self.new)) result }
+        ensures bytes { WriteAppends (Some (bytes_held self.old)) (Some (bytes_held self.new))
+            result piece.now }
+        ensures room { WriteUsesRoom (Some (bytes_free self.old)) (Some (bytes_free self.new))
+            result }
         ensures cause { HasCause 0 0 result }
         ensures most { most_bytes self.new ≡ most_bytes self.old }
     {

@@ -1,15 +1,16 @@
 //! Devices over std's readers and writers. They tell nothing of their bytes.
-ghost use Rattle.std.specs.Prelude.{◌≡◌, ◌^◌, ◌-◌, ◌≤◌, ◌<◌, None, length, is_some, is_err, IsOk, IfOk, if◌then◌else◌};
+ghost use Rattle.std.specs.Prelude.{◌≡◌, ◌^◌, ◌-◌, ◌≤◌, ◌<◌, None, length, is_some, IsOk, IfOk};
 ghost use Rattle.std.specs.Io.{ReadsAtMost, WritesAtMost};
 ghost use Rattle.std.specs.Io.KnownBytes.{ReadConsumes, WriteAppends};
-ghost use Rattle.av_io.specs.Devices.{HasCause, HasRoom, WriteUsesRoom, counted};
+ghost use Rattle.av_io.specs.Devices.{HasCause, HasRoom, WriteUsesRoom, faults_after};
 
 use crate::count::Count;
 use crate::device::{Failed, Sink, Source};
 use std::alloc::AllocError;
 use std::io::{Read, Write};
 
-/// A source over a reader, as standard input. An `Err` of the reader, of whatever kind, is a fault.
+/// A source over a reader, as standard input. An `Err` of the reader, of whatever kind, is a fault:
+/// an interrupted read too, which isn't tried again.
 #[derive(Drop)]
 pub struct StdSource<R: Read> {
     reader: R,
@@ -42,8 +43,11 @@ impl<R: Read> Source for StdSource<R> {
     fn read(&mut self, into: &mut [u8]) -> Result<usize, Failed>
         ensures bound { ReadsAtMost result into.new }
         ensures cause { HasCause (fault_count self.old) (fault_count self.new) result }
-        ensures faults { fault_count self.new ≡ (if is_err result then counted (fault_count self.old) else fault_count self.old) }
-        ensures reader { ReadConsumes (R.remaining (reader_of self.old)) (R.remaining (reader_of self.new)) result into.new }
+        ensures faults { fault_count self.new ≡ faults_after result (fault_count self.old) }
+
+        // What the reader itself tells, if it does, moves as for any source.
+        ensures reader { ReadConsumes (R.remaining (reader_of self.old))
+            (R.remaining (reader_of self.new)) result into.new }
     {
         match self.reader.read(into) {
             Ok(count) => Ok(count),
@@ -55,8 +59,9 @@ impl<R: Read> Source for StdSource<R> {
     }
 }
 
-/// A sink over a writer, as standard output. An `Err` of the writer, of whatever kind, is a fault, and so is a write that
-/// takes nothing of a piece that isn't empty. It never flushes, so give it a writer without a buffer, as `std::io::writer`.
+/// A sink over a writer, as standard output. An `Err` of the writer, of whatever kind, is a fault,
+/// and so is a write that takes nothing of a piece that isn't empty. It never flushes: give it a
+/// writer that keeps no buffer, as `std::io::writer` makes.
 #[derive(Drop)]
 pub struct StdSink<W: Write> {
     writer: W,
@@ -100,8 +105,11 @@ impl<W: Write> Sink for StdSink<W> {
         ensures bound { WritesAtMost result piece.now }
         ensures some { IfOk result (λ n. 0 < length piece.now → 0 < n) }
         ensures cause { HasCause (fault_count self.old) (fault_count self.new) result }
-        ensures faults { fault_count self.new ≡ (if is_err result then counted (fault_count self.old) else fault_count self.old) }
-        ensures writer { WriteAppends (W.contents (writer_of self.old)) (W.contents (writer_of self.new)) result piece.now }
+        ensures faults { fault_count self.new ≡ faults_after result (fault_count self.old) }
+
+        // What the writer itself tells, if it does, grows as for any sink.
+        ensures writer { WriteAppends (W.contents (writer_of self.old))
+            (W.contents (writer_of self.new)) result piece.now }
     {
         match self.writer.write(piece) {
             Ok(count) if count > 0 || piece.is_empty() => Ok(count),
@@ -119,7 +127,7 @@ mod tests {
     use std::io;
     use std::io::ErrorKind;
 
-    /// Moves a byte in its first turn, fails in the second, moves nothing in the third, and moves a byte again.
+    /// Moves a byte, fails, moves nothing, and then moves a byte in each turn.
     #[derive(Drop)]
     struct Flaky {
         turn: u8,
