@@ -1,59 +1,14 @@
-//! Devices in memory that never fail.
-ghost use Rattle.std.specs.Prelude.{◌≡◌, ◌<◌, ◌≤◌, ◌^◌, ◌-◌, ◌++◌, [], Some, Ok, length, min, max, take, is_some, IsOk, OnOk, OnErr};
-ghost use Rattle.std.specs.Io.{ReadsAtMost, WritesAtMost};
-ghost use Rattle.std.specs.Io.KnownBytes.{ReadConsumes, WriteAppends};
+//! A sink in memory that never fails.
+ghost use Rattle.std.specs.Prelude.{◌≡◌, ◌<◌, ◌≤◌, ◌-◌, [], Some, Ok, length, min, max, IsOk, OnOk, OnErr};
+ghost use Rattle.std.specs.Io.{WritesAtMost};
+ghost use Rattle.std.specs.Io.KnownBytes.{WriteAppends};
 ghost use Rattle.std.proofs.Common.{lit≤};
 ghost use Rattle.av_io.specs.Devices.{HasCause, HasRoom, WriteUsesRoom};
+ghost use Rattle.av_io.specs.PlainSink.{bytes_held, bytes_free, most_bytes};
 
-use crate::device::{Failed, Sink, Source};
-use crate::feed::Feed;
+use crate::device::{Failed, Sink};
 use crate::store::Store;
 use std::alloc::{AllocError, Global};
-
-/// A source in memory that never fails.
-#[derive(Debug, Drop)]
-pub struct PlainSource {
-    feed: Feed,
-}
-
-impl PlainSource {
-    ghost use Rattle.av_io.specs.PlainSource.{bytes_left, most_bytes};
-
-    /// A source of these bytes, which gives at most `most` of them in one call.
-    pub fn new(bytes: Vec<u8>, most: usize) -> PlainSource
-        requires { 0 < most }
-        ensures left { bytes_left result ≡ bytes.items }
-        ensures most { most_bytes result ≡ most }
-    {
-        PlainSource {
-            feed: Feed::new(bytes, most),
-        }
-    }
-}
-
-impl Source for PlainSource {
-    ghost use Rattle.av_io.specs.PlainSource.{bytes_left, most_bytes};
-
-    ghost left = { λ source. Some (bytes_left source) };
-
-    ghost faults = { λ _. 0 };
-
-    ghost count_fits = { λ _. lit≤ tt };
-
-    /// Reads as many bytes as are left, fit `into` and may come in one call.
-    fn read(&mut self, into: &mut [u8]) -> Result<usize, Failed>
-        ensures bound { ReadsAtMost result into.new }
-        ensures bytes { ReadConsumes (Some (bytes_left self.old)) (Some (bytes_left self.new))
-            result into.new }
-        ensures cause { HasCause 0 0 result }
-        ensures never_fails { IsOk result }
-        ensures count { result ≡
-            Ok (min (most_bytes self.old) (min (length into.old) (length (bytes_left self.old)))) }
-        ensures most { most_bytes self.new ≡ most_bytes self.old }
-    {
-        Ok(self.feed.read(into))
-    }
-}
 
 /// A sink in memory that never fails.
 #[derive(Debug, Drop)]
@@ -62,8 +17,6 @@ pub struct PlainSink {
 }
 
 impl PlainSink {
-    ghost use Rattle.av_io.specs.PlainSink.{bytes_held, bytes_free, most_bytes};
-
     /// A sink that holds nothing and has no room, and takes at most `most` bytes in one call.
     pub fn new(alloc: Global, most: usize) -> PlainSink
         requires { 0 < most }
@@ -85,8 +38,6 @@ impl PlainSink {
 }
 
 impl Sink for PlainSink {
-    ghost use Rattle.av_io.specs.PlainSink.{bytes_held, bytes_free, most_bytes};
-
     ghost held = { λ sink. Some (bytes_held sink) };
 
     ghost faults = { λ _. 0 };

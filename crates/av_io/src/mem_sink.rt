@@ -1,73 +1,14 @@
-//! Devices in memory that fail at listed calls.
-ghost use Rattle.std.specs.Prelude.{◌≡◌, ◌<◌, ◌≤◌, ◌^◌, ◌-◌, ◌++◌, ◌↔◌, [], Some, length, min, max, take, drop, is_some, IsErr, IfOk, OnOk, OnErr, Contains};
-ghost use Rattle.std.specs.Io.{ReadsAtMost, WritesAtMost};
-ghost use Rattle.std.specs.Io.KnownBytes.{ReadConsumes, WriteAppends};
+//! A sink in memory that fails at listed calls.
+ghost use Rattle.std.specs.Prelude.{◌≡◌, ◌<◌, ◌-◌, ◌↔◌, [], Some, length, min, max, IsErr, IfOk, OnOk, OnErr, Contains};
+ghost use Rattle.std.specs.Io.{WritesAtMost};
+ghost use Rattle.std.specs.Io.KnownBytes.{WriteAppends};
 ghost use Rattle.av_io.specs.Devices.{HasCause, HasRoom, WriteUsesRoom, counted, faults_after};
+ghost use Rattle.av_io.specs.MemSink.{bytes_held, bytes_free, most_bytes, calls_made, failing_calls, fault_count};
 
 use crate::calls::Calls;
-use crate::device::{Failed, Sink, Source};
-use crate::feed::Feed;
+use crate::device::{Failed, Sink};
 use crate::store::Store;
 use std::alloc::{AllocError, Global};
-
-/// A source in memory whose reads fail at listed calls.
-#[derive(Debug, Drop)]
-pub struct MemSource {
-    feed: Feed,
-    calls: Calls,
-}
-
-impl MemSource {
-    ghost use Rattle.av_io.specs.MemSource.{bytes_left, most_bytes, calls_made, failing_calls, fault_count};
-
-    /// A source of these bytes, which gives at most `most` of them in one call. The calls of
-    /// `read` are numbered from 0, and those that `fails` lists fail. The numbers stand still at
-    /// `u64::MAX`, which all later calls have too.
-    pub fn new(bytes: Vec<u8>, most: usize, fails: Vec<u64>) -> MemSource
-        requires { 0 < most }
-        ensures left { bytes_left result ≡ bytes.items }
-        ensures most { most_bytes result ≡ most }
-        ensures fails { failing_calls result ≡ fails.items }
-        ensures calls { calls_made result ≡ 0 }
-        ensures faults { fault_count result ≡ 0 }
-    {
-        MemSource {
-            feed: Feed::new(bytes, most),
-            calls: Calls::new(fails),
-        }
-    }
-}
-
-impl Source for MemSource {
-    ghost use Rattle.av_io.specs.MemSource.{bytes_left, most_bytes, calls_made, failing_calls, fault_count};
-
-    ghost left = { λ source. Some (bytes_left source) };
-
-    ghost faults = { fault_count };
-
-    ghost count_fits = { λ source. source.calls.faults.fits };
-
-    /// Fails where this call is listed, and otherwise reads as many bytes as are left, fit `into`
-    /// and may come in one call.
-    fn read(&mut self, into: &mut [u8]) -> Result<usize, Failed>
-        ensures bound { ReadsAtMost result into.new }
-        ensures bytes { ReadConsumes (Some (bytes_left self.old)) (Some (bytes_left self.new))
-            result into.new }
-        ensures cause { HasCause (fault_count self.old) (fault_count self.new) result }
-        ensures listed { IsErr result ↔ Contains (failing_calls self.old) (calls_made self.old) }
-        ensures count { IfOk result (λ n. n ≡
-            min (most_bytes self.old) (min (length into.old) (length (bytes_left self.old)))) }
-        ensures calls { calls_made self.new ≡ counted (calls_made self.old) }
-        ensures faults { fault_count self.new ≡ faults_after result (fault_count self.old) }
-        ensures fails { failing_calls self.new ≡ failing_calls self.old }
-        ensures most { most_bytes self.new ≡ most_bytes self.old }
-    {
-        if self.calls.next_fails() {
-            return Err(Failed);
-        }
-        Ok(self.feed.read(into))
-    }
-}
 
 /// A sink in memory whose writes fail at listed calls.
 #[derive(Debug, Drop)]
@@ -77,8 +18,6 @@ pub struct MemSink {
 }
 
 impl MemSink {
-    ghost use Rattle.av_io.specs.MemSink.{bytes_held, bytes_free, most_bytes, calls_made, failing_calls, fault_count};
-
     /// A sink that holds nothing and has no room, and takes at most `most` bytes in one call. The
     /// calls of `write` are numbered from 0, and those that `fails` lists fail. The numbers stand
     /// still at `u64::MAX`, which all later calls have too.
@@ -106,8 +45,6 @@ impl MemSink {
 }
 
 impl Sink for MemSink {
-    ghost use Rattle.av_io.specs.MemSink.{bytes_held, bytes_free, most_bytes, calls_made, failing_calls, fault_count};
-
     ghost held = { λ sink. Some (bytes_held sink) };
 
     ghost faults = { fault_count };
