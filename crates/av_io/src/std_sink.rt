@@ -20,6 +20,7 @@ pub struct StdSink<W: Write> {
 }
 
 impl<W: Write> StdSink<W> {
+    /// A sink that writes to `writer`, and has had no fault.
     pub fn new(writer: W) -> StdSink<W>
         ensures writer { writer_of result ≡ writer }
         ensures faults { fault_count result ≡ 0 }
