@@ -1,6 +1,6 @@
--- What a call of a source or a sink does to its count of faults and to its room. What it does to the bytes that are told is said
--- in std's words for readers and writers.
-use Rattle.std.specs.Prelude.{◌≡◌, ℕ, ◌+◌, ◌-◌, ◌^◌, ◌≤◌, min, List, length, Option, Result, OnOk, OnErr, MatchResult, option_map}
+-- What a call of a source or a sink does to its count of faults and to its room.
+-- What it does to the bytes that are told is said in std's words for readers and writers.
+use Rattle.std.specs.Prelude.{◌≡◌, ℕ, ◌+◌, ◌-◌, ◌^◌, ◌≤◌, min, List, length, Option, Result, is_err, OnOk, OnErr, MatchResult, option_map, if◌then◌else◌}
 use Rattle.std.specs.Io.KnownBytes.{Appends}
 use Rattle.std.specs.Option.{ForSome}
 
@@ -12,22 +12,28 @@ counted n = min (n + 1) (2 ^ 64 - 1)
 abbrev pub Rose : ℕ → ℕ → Type 0
 Rose before now = counted before ≤ now
 
--- a call's count of faults never falls, rose where the call failed, and is as it was where the call succeeded
+-- a call's count of faults never falls, rose where the call failed, and stayed where it succeeded
 pub record HasCause {T E : Type 0} (before now : ℕ) (result : Result T E) : Type 0 where
   pub never_falls : before ≤ now
   pub rose : OnErr result (Rose before now)
   pub unchanged : OnOk result (now ≡ before)
 
+-- a count of faults after a call: one higher where the call failed
+abbrev pub faults_after : {T E : Type 0} → Result T E → ℕ → ℕ
+faults_after result before = if is_err result then counted before else before
+
 -- where the room is told, it is for at least n bytes
 abbrev pub HasRoom : Option ℕ → ℕ → Type 0
 HasRoom room n = ForSome room (λ free. n ≤ free)
 
--- a write lowered the room, where it is told, by the bytes that it took; a failed one left it as it was
+-- a write lowered the room, where it is told, by the bytes taken; a failed one left it as it was
 abbrev pub WriteUsesRoom : {E : Type 0} → Option ℕ → Option ℕ → Result ℕ E → Type 0
-WriteUsesRoom before now result = MatchResult result (λ n. now ≡ option_map (λ free. free - n) before) (λ _. now ≡ before)
+WriteUsesRoom before now result =
+    MatchResult result (λ n. now ≡ option_map (λ free. free - n) before) (λ _. now ≡ before)
 
--- what a sink that held and had room for these does with the bytes that it takes: they follow those held, and the room is lower by
--- them, where these are told
-pub record Takes (held held' : Option (List ℕ)) (room room' : Option ℕ) (bytes : List ℕ) : Type 0 where
+-- a sink took these bytes: they follow those that it held, and its room is lower by their number,
+-- where it tells them
+pub record Takes (held held' : Option (List ℕ)) (room room' : Option ℕ) (bytes : List ℕ)
+    : Type 0 where
   pub appended : Appends held held' bytes
   pub used : room' ≡ option_map (λ free. free - length bytes) room

@@ -1,6 +1,6 @@
 -- What contracts see of a sink in memory that fails at listed calls.
 use Rattle.std.specs.Prelude.{ℕ, List}
-use Rattle.av_io.specs.declared.memory.MemSink.{MemSink}
+use Rattle.av_io.specs.declared.mem_sink.MemSink.{MemSink}
 
 -- the bytes taken
 abbrev pub bytes_held : MemSink → List ℕ

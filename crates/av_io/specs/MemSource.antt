@@ -1,7 +1,7 @@
 -- What contracts see of a source in memory that fails at listed calls.
 use Rattle.std.specs.Prelude.{ℕ, List}
 use Rattle.av_io.specs.Feed.{unread}
-use Rattle.av_io.specs.declared.memory.MemSource.{MemSource}
+use Rattle.av_io.specs.declared.mem_source.MemSource.{MemSource}
 
 -- the bytes still to come
 abbrev pub bytes_left : MemSource → List ℕ

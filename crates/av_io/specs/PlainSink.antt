@@ -1,6 +1,6 @@
 -- What contracts see of a sink in memory that never fails.
 use Rattle.std.specs.Prelude.{ℕ, List}
-use Rattle.av_io.specs.declared.plain.PlainSink.{PlainSink}
+use Rattle.av_io.specs.declared.plain_sink.PlainSink.{PlainSink}
 
 -- the bytes taken
 abbrev pub bytes_held : PlainSink → List ℕ

@@ -1,7 +1,7 @@
 -- What contracts see of a source in memory that never fails.
 use Rattle.std.specs.Prelude.{ℕ, List}
 use Rattle.av_io.specs.Feed.{unread}
-use Rattle.av_io.specs.declared.plain.PlainSource.{PlainSource}
+use Rattle.av_io.specs.declared.plain_source.PlainSource.{PlainSource}
 
 -- the bytes still to come
 abbrev pub bytes_left : PlainSource → List ℕ

@@ -1,6 +1,6 @@
 -- What contracts see of a sink over one of std's writers.
 use Rattle.std.specs.Prelude.{ℕ}
-use Rattle.av_io.specs.declared.standard.StdSink.{StdSink}
+use Rattle.av_io.specs.declared.std_sink.StdSink.{StdSink}
 
 -- the writer
 abbrev pub writer_of : {W : Type 0} → StdSink W → W

@@ -1,6 +1,6 @@
 -- What contracts see of a source over one of std's readers.
 use Rattle.std.specs.Prelude.{ℕ}
-use Rattle.av_io.specs.declared.standard.StdSource.{StdSource}
+use Rattle.av_io.specs.declared.std_source.StdSource.{StdSource}
 
 -- the reader
 abbrev pub reader_of : {R : Type 0} → StdSource R → R

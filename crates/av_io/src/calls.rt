@@ -29,7 +29,8 @@ impl Calls {
     pub(crate) fn next_fails(&mut self) -> bool
         ensures listed { IsTrue result ↔ Contains self.old.fails.items self.old.made.number }
         ensures made { self.new.made.number ≡ counted self.old.made.number }
-        ensures faults { self.new.faults.number ≡ (if result then counted self.old.faults.number else self.old.faults.number) }
+        ensures faults { self.new.faults.number ≡
+            (if result then counted self.old.faults.number else self.old.faults.number) }
         ensures fails { self.new.fails.items ≡ self.old.fails.items }
     {
         let fails = self.fails.contains(&self.made.number);

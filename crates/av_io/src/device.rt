@@ -18,11 +18,12 @@ pub trait Source {
     // How many calls have failed. It stands still at 2 ^ 64 - 1.
     ghost faults: { Self → ℕ };
 
-    /// Reads some bytes to the front of `into`, and says how many. `Ok(0)` on a non-empty `into` is the end of the input.
+    /// Reads some bytes to the front of `into`, and says how many. `Ok(0)` on a non-empty `into` is
+    /// the end of the input.
     fn read(&mut self, into: &mut [u8]) -> Result<usize, Failed>
         ensures bound { ReadsAtMost result into.new }
 
-        // The bytes read are the first of those left and are gone from them; a failed read takes none.
+        // The bytes read are the first of those left, and are gone; a failed read takes none.
         ensures bytes { ReadConsumes (left self.old) (left self.new) result into.new }
         ensures told { is_some (left self.new) ≡ is_some (left self.old) }
         ensures cause { HasCause (faults self.old) (faults self.new) result };
@@ -50,7 +51,8 @@ pub trait Sink {
         ensures held { held self.new ≡ held self.old }
         ensures faults { faults self.new ≡ faults self.old };
 
-    /// Takes some bytes from the front of `piece`, and says how many: at least one of a piece that is not empty.
+    /// Takes some bytes from the front of `piece`, and says how many: at least one of a piece that
+    /// is not empty.
     fn write(&mut self, piece: &[u8]) -> Result<usize, Failed>
         requires { HasRoom (room self.old) (length piece.now) }
         ensures bound { WritesAtMost result piece.now }

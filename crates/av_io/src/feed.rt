@@ -26,7 +26,8 @@ impl Feed {
     /// Moves as many bytes as it may to the front of `into`, and says how many.
     pub(crate) fn read(&mut self, into: &mut [u8]) -> usize
         ensures bound { result ≤ length into.new }
-        ensures count { result ≡ min self.old.most (min (length into.old) (length (unread self.old))) }
+        ensures count { result ≡
+            min self.old.most (min (length into.old) (length (unread self.old))) }
         ensures bytes { unread self.old ≡ take result into.new ++ unread self.new }
         ensures end { result ≡ 0 → 0 < length into.new → unread self.new ≡ [] }
         ensures beyond { drop result into.new ≡ drop result into.old }

@@ -50,7 +50,8 @@ impl Store {
         Ok(())
     }
 
-    /// Takes as many bytes as it may from the front of `piece`, and says how many. It takes no memory.
+    /// Takes as many bytes as it may from the front of `piece`, and says how many. It takes no
+    /// memory.
     pub(crate) fn write(&mut self, piece: &[u8]) -> usize
         requires { length piece.now ≤ self.old.room }
         ensures count { result ≡ min self.old.most (length piece.now) }

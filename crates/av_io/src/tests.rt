@@ -1,10 +1,12 @@
-//! What the devices in memory give and take, called through the traits.
-ghost use Rattle.std.specs.Prelude.{length};
-ghost use Rattle.av_io.specs.Devices.{HasRoom};
+//! What the devices give and take, called through the traits.
+ghost use Rattle.std.specs.Prelude.{length, IfOk, ◌≤◌};
 
 use crate::{
-    Failed, MemSink, MemSource, PlainSink, PlainSource, Sink, Source, read_full, write_all,
+    Failed, MemSink, MemSource, PlainSink, PlainSource, Sink, Source, StdSink, StdSource,
+    read_full, write_all,
 };
+use std::io;
+use std::io::{ErrorKind, Read, Write};
 use std::process::Abort;
 use std::test::Fail;
 
@@ -98,4 +100,56 @@ fn whole_transfers_stop_at_a_failed_call(rt: HostRuntime) -> Result<(), Fail> {
     assert_eq!(rt; write_all(&mut sink, &TEXT), Err(Failed));
     assert_eq!(rt; sink.bytes(), b"abcd".as_slice());
     Ok(())
+}
+
+/// Moves a byte, fails, moves nothing, and then moves a byte in each turn.
+#[derive(Drop)]
+struct Flaky {
+    turn: u8,
+}
+
+impl Flaky {
+    fn turns(&mut self, bytes: &[u8]) -> io::Result<usize>
+        ensures { IfOk result (λ n. n ≤ length bytes.now) }
+    {
+        self.turn = self.turn.saturating_add(1);
+        match self.turn {
+            2 => Err(io::Error::from(ErrorKind::Interrupted)),
+            3 => Ok(0),
+            _ => Ok(bytes.len().min(1)),
+        }
+    }
+}
+
+impl Read for Flaky {
+    fn read(&mut self, buf: &mut [u8]) -> io::Result<usize> {
+        self.turns(buf)
+    }
+}
+
+impl Write for Flaky {
+    fn write(&mut self, buf: &[u8]) -> io::Result<usize> {
+        self.turns(buf)
+    }
+
+    fn flush(&mut self) -> io::Result<()> {
+        Ok(())
+    }
+}
+
+#[test]
+fn errors_and_stuck_writes_are_counted(rt: HostRuntime) {
+    let mut source = StdSource::new(Flaky { turn: 0 });
+    for (answer, faults) in [(Ok(1), 0), (Err(Failed), 1), (Ok(0), 1), (Ok(1), 1)] {
+        assert_eq!(rt; source.read(&mut [0; 4]), answer);
+        assert_eq!(rt; source.faults.number, faults);
+    }
+    let mut sink = StdSink::new(Flaky { turn: 0 });
+    assert_eq!(rt; sink.reserve(usize::MAX), Ok(()));
+    for (answer, faults) in [(Ok(1), 0), (Err(Failed), 1), (Err(Failed), 2), (Ok(1), 2)] {
+        assert_eq!(rt; sink.write(b"text"), answer);
+        assert_eq!(rt; sink.faults.number, faults);
+    }
+    assert_eq!(rt; sink.write(b""), Ok(0));
+    assert_eq!(rt; sink.faults.number, 2);
 }

@@ -5,12 +5,15 @@ ghost use Rattle.av_io.specs.Devices.{HasCause, HasRoom, Takes};
 
 use crate::device::{Failed, Sink, Source};
 
-/// Writes all of `bytes`, in as many calls as that takes. Where one fails, the sink has taken those before it.
+/// Writes all of `bytes`, in as many calls as that takes. Where a call fails, the sink has taken
+/// what the calls before it took.
 pub fn write_all<O: Sink>(to: &mut O, bytes: &[u8]) -> Result<(), Failed>
     requires { HasRoom (O.room to.old) (length bytes.now) }
-    ensures ok { OnOk result (Takes (O.held to.old) (O.held to.new) (O.room to.old) (O.room to.new) bytes.now) }
+    ensures ok { OnOk result
+        (Takes (O.held to.old) (O.held to.new) (O.room to.old) (O.room to.new) bytes.now) }
     ensures failed { OnErr result ((n : ℕ) × (n < length bytes.now)
-        × Takes (O.held to.old) (O.held to.new) (O.room to.old) (O.room to.new) (take n bytes.now)) }
+        × Takes (O.held to.old) (O.held to.new) (O.room to.old) (O.room to.new)
+        (take n bytes.now)) }
     ensures told { is_some (O.held to.new) ≡ is_some (O.held to.old) }
     ensures cause { HasCause (O.faults to.old) (O.faults to.new) result }
 {
@@ -21,13 +24,16 @@ pub fn write_all<O: Sink>(to: &mut O, bytes: &[u8]) -> Result<(), Failed>
     Ok(())
 }
 
-/// Reads until `into` is full or the input ends, and says how many bytes came: fewer than `into` has places only at the
-/// end of the input. Where a read fails, the bytes before it are lost.
+/// Reads until `into` is full or the input ends, and says how many bytes came: fewer than `into`
+/// has places only at the end of the input. Where a call fails, what the calls before it gave is
+/// lost.
 pub fn read_full<I: Source>(from: &mut I, into: &mut [u8]) -> Result<usize, Failed>
     ensures bound { IfOk result (λ n. n ≤ length into.new) }
-    ensures bytes { IfOk result (λ n. Consumes (I.left from.old) (I.left from.new) (take n into.new)) }
+    ensures bytes { IfOk result
+        (λ n. Consumes (I.left from.old) (I.left from.new) (take n into.new)) }
     ensures end { IfOk result (λ n. n < length into.new → IsAtEnd (I.left from.new)) }
-    ensures lost { OnErr result ((bytes : List ℕ) × Consumes (I.left from.old) (I.left from.new) bytes) }
+    ensures lost { OnErr result
+        ((bytes : List ℕ) × Consumes (I.left from.old) (I.left from.new) bytes) }
     ensures told { is_some (I.left from.new) ≡ is_some (I.left from.old) }
     ensures cause { HasCause (I.faults from.old) (I.faults from.new) result }
 {
