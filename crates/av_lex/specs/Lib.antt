@@ -1,1 +1,4 @@
-pub mod Step
+pub mod Bytes
+pub mod Spellings
+pub mod Tokens
+pub mod Steps

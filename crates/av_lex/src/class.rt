@@ -1,31 +1,39 @@
-ghost use Rattle.std.specs.Prelude.{◌≡◌, ◌+◌, ◌<◌, ◌≤◌, length};
+ghost use Rattle.std.specs.Prelude.{◌≡◌, ◌+◌, ◌<◌, ◌≤◌, false, length, slice_index};
+ghost use Rattle.av_lex.specs.Bytes.{in_class, Run};
 
-/// A set of bytes of which a run can be part of a token or of a comment.
+/// A set of bytes that begin or make up tokens or comments.
 #[derive(Clone, Copy, Debug, PartialEq, Eq, Drop)]
 pub enum Class {
     /// Decimal digits.
     Digit,
-    /// What may follow in a word.
+    /// What can begin a word.
+    WordStart,
+    /// What can follow in a word.
     Word,
-    /// What may follow in a name.
+    /// What can begin a name that isn't a number.
+    NameStart,
+    /// What can follow in such a name.
     Name,
-    /// What may stand between quotes.
+    /// What can stand between quotes.
     Quoted,
-    /// What may stand in a comment.
+    /// What can stand in a comment.
     Comment,
 }
 
 /// Whether a byte is of the class.
-pub fn is_of(class: Class, byte: u8) -> bool {
+#[tactic(auto, unfolding(crate::specs::Bytes::in_class))]
+pub fn is_of(class: Class, byte: u8) -> bool
+    ensures { result ≡ in_class class byte }
+{
     match class {
         Class::Digit => byte.is_ascii_digit(),
+        Class::WordStart => byte.is_ascii_alphabetic() || byte == b'_',
         Class::Word => byte.is_ascii_alphanumeric() || byte == b'_' || byte == b'$' || byte == b'.',
+        Class::NameStart => {
+            byte.is_ascii_alphabetic() || byte == b'_' || byte == b'$' || byte == b'.' || byte == b'-'
+        }
         Class::Name => {
-            byte.is_ascii_alphanumeric()
-                || byte == b'_'
-                || byte == b'$'
-                || byte == b'.'
-                || byte == b'-'
+            byte.is_ascii_alphanumeric() || byte == b'_' || byte == b'$' || byte == b'.' || byte == b'-'
         }
         Class::Quoted => byte >= 0x20 && byte <= 0x7E && byte != b'"' && byte != b'\\',
         Class::Comment => byte != b'\n',
@@ -37,6 +45,8 @@ pub fn run_end(class: Class, bytes: &[u8], from: usize) -> usize
     requires { from ≤ length bytes.now }
     ensures from { from ≤ result }
     ensures within { result ≤ length bytes.now }
+    ensures run { Run class bytes.now from result }
+    ensures stop { result < length bytes.now → in_class class (slice_index bytes.now result) ≡ false }
 {
     let mut at = from;
     while at < bytes.len() && is_of(class, bytes[at]) {
