@@ -4,6 +4,10 @@
 //! longest token is taken.
 #![tactic(auto)]
 
+mod class;
+mod lexer;
+mod step;
 mod token;
 
+pub use lexer::lex;
 pub use token::{Kind, LexFault, Sign, Token};

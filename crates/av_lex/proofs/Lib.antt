@@ -1,0 +1,4 @@
+pub mod Runs
+pub mod KindOf
+pub mod NextTokens
+pub mod BadBytes
