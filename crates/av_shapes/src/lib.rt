@@ -23,7 +23,8 @@ pub const MAX_SCALE: u32 = 16;
 /// The shape of a vector: one to three sizes, outermost first, whose product is 1 to 256.
 ///
 /// Where it is scalable, its last size counts times the scale. It takes no memory: the sizes lie in the value.
-#[derive(Drop)]
+/// Contracts see the list of its sizes and the flag.
+#[derive(Debug, Drop)]
 pub struct Shape {
     dims: SmallVec<u16, 3>,
     scalable: bool,
