@@ -1,1 +1,3 @@
 pub mod Rounding
+pub mod Values
+pub mod DivisionLaws

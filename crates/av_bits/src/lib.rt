@@ -8,6 +8,7 @@ mod casts;
 mod comparisons;
 mod divisions;
 mod kinds;
+pub mod laws;
 mod operations;
 mod pattern;
 mod shifts;
