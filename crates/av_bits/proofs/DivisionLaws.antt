@@ -68,6 +68,7 @@ rounded_up x y =
     above : (x y q : ℤ) → ((q *ℤ y) ≤ℤ neg_ℤ x) × (neg_ℤ x <ℤ (q *ℤ y +ℤ y))
         → (x ≤ℤ (neg_ℤ q *ℤ y)) × ((neg_ℤ q *ℤ y -ℤ y) <ℤ x)
     above x y q d = rw (neg_times q y) (omega (arith, ints, d.0, d.1), omega (arith, ints, d.0, d.1))
+
     below : (x y q : ℤ) → (neg_ℤ x ≤ℤ (q *ℤ y)) × ((q *ℤ y +ℤ y) <ℤ neg_ℤ x)
         → ((neg_ℤ q *ℤ y) ≤ℤ x) × (x <ℤ (neg_ℤ q *ℤ y -ℤ y))
     below x y q d = rw (neg_times q y) (omega (arith, ints, d.0, d.1), omega (arith, ints, d.0, d.1))
@@ -159,25 +160,25 @@ high_minus_one b m l e = omega (arith, ints)
 from_zero : (w : Width) (b : ℕ) → IsPattern w b → value_of w b ≡ pos 0 → b ≡ 0
 from_zero w b below e =
     elim (signed_value-cases (bits_of w) b below) [
-      inl c ↦ let f : pos b ≡ pos 0 = sym c.1 ∙ e in cc
-    | inr c ↦ let f : negsuc (2 ^ bits_of w - suc b) ≡ pos 0 = sym c.1 ∙ e in cc
+      | inl c ↦ let f : pos b ≡ pos 0 = sym c.1 ∙ e in cc
+      | inr c ↦ let f : negsuc (2 ^ bits_of w - suc b) ≡ pos 0 = sym c.1 ∙ e in cc
     ]
 
 from_least : (w : Width) (a : ℕ) → IsPattern w a → value_of w a ≡ neg_ℤ (pos (2 ^ (bits_of w - 1))) → a ≡ 2 ^ (bits_of w - 1)
 from_least w a below e =
     elim (signed_value-cases (bits_of w) a below) [
-      inl c ↦ absurd (low_least a (2 ^ (bits_of w - 1)) (pow_pos (bits_of w - 1)) (sym c.1 ∙ e))
-    | inr c ↦ high_least a (2 ^ (bits_of w - 1)) (2 ^ bits_of w) (halves w) below c.0 (sym c.1 ∙ e)
+      | inl c ↦ absurd (low_least a (2 ^ (bits_of w - 1)) (pow_pos (bits_of w - 1)) (sym c.1 ∙ e))
+      | inr c ↦ high_least a (2 ^ (bits_of w - 1)) (2 ^ bits_of w) (halves w) below c.0 (sym c.1 ∙ e)
     ]
 
 from_minus_one : (w : Width) (b : ℕ) → IsPattern w b → value_of w b ≡ negsuc 0 → b ≡ 2 ^ bits_of w - 1
 from_minus_one w b below e =
     elim (signed_value-cases (bits_of w) b below) [
-      inl c ↦ let f : pos b ≡ negsuc 0 = sym c.1 ∙ e in cc
-    | inr c ↦ high_minus_one b (2 ^ bits_of w) below (sym c.1 ∙ e)
+      | inl c ↦ let f : pos b ≡ negsuc 0 = sym c.1 ∙ e in cc
+      | inr c ↦ high_minus_one b (2 ^ bits_of w) below (sym c.1 ∙ e)
     ]
 
-value-least : (w : Width) → value_of w (2 ^ (bits_of w - 1)) ≡ neg_ℤ (pos (2 ^ (bits_of w - 1)))
+pub value-least : (w : Width) → value_of w (2 ^ (bits_of w - 1)) ≡ neg_ℤ (pos (2 ^ (bits_of w - 1)))
 value-least w =
     signed_value-high (bits_of w) (2 ^ (bits_of w - 1)) (omega arith) (omega (arith, halves w, pow_pos (bits_of w - 1)))
     ∙ half (2 ^ (bits_of w - 1)) (2 ^ bits_of w) (pow_pos (bits_of w - 1)) (halves w)
@@ -203,47 +204,46 @@ or_right false y e = e
 
 pub traps_where : TrapLaw
 traps_where w a b pa pb = (
-    λ e. elim (or_cases (b == 0) ((a == 2 ^ (bits_of w - 1)) && (b == 2 ^ bits_of w - 1)) e) [
-      inl z ↦ inl (ap (value_of w) (eqb-true b 0 z) ∙ signed_value-low (bits_of w) 0 (pow_pos (bits_of w - 1)))
+  λ e. elim (or_cases (b == 0) ((a == 2 ^ (bits_of w - 1)) && (b == 2 ^ bits_of w - 1)) e) [
+    | inl z ↦ inl (ap (value_of w) (eqb-true b 0 z) ∙ signed_value-low (bits_of w) 0 (pow_pos (bits_of w - 1)))
     | inr z ↦
         let both = and_parts (a == 2 ^ (bits_of w - 1)) (b == 2 ^ bits_of w - 1) z in
         inr (
-            ap (value_of w) (eqb-true a (2 ^ (bits_of w - 1)) both.0) ∙ value-least w,
-            ap (value_of w) (eqb-true b (2 ^ bits_of w - 1) both.1) ∙ value-minus_one w
+          ap (value_of w) (eqb-true a (2 ^ (bits_of w - 1)) both.0) ∙ value-least w,
+          ap (value_of w) (eqb-true b (2 ^ bits_of w - 1) both.1) ∙ value-minus_one w,
         )
-    ],
-    λ d. elim d [
-      inl z ↦ or_left (b == 0) ((a == 2 ^ (bits_of w - 1)) && (b == 2 ^ bits_of w - 1)) (eq-eqb b 0 (from_zero w b pb z))
+  ],
+  λ d. elim d [
+    | inl z ↦ or_left (b == 0) ((a == 2 ^ (bits_of w - 1)) && (b == 2 ^ bits_of w - 1)) (eq-eqb b 0 (from_zero w b pb z))
     | inr z ↦
         or_right (b == 0) ((a == 2 ^ (bits_of w - 1)) && (b == 2 ^ bits_of w - 1))
-            (and_from (a == 2 ^ (bits_of w - 1)) (b == 2 ^ bits_of w - 1)
-                (eq-eqb a (2 ^ (bits_of w - 1)) (from_least w a pa z.0))
-                (eq-eqb b (2 ^ bits_of w - 1) (from_minus_one w b pb z.1)))
-    ]
+        (and_from (a == 2 ^ (bits_of w - 1)) (b == 2 ^ bits_of w - 1)
+        (eq-eqb a (2 ^ (bits_of w - 1)) (from_least w a pa z.0))
+        (eq-eqb b (2 ^ bits_of w - 1) (from_minus_one w b pb z.1)))
+  ],
 )
 
 nonzero_value : (w : Width) (b : ℕ) → IsPattern w b → (b ≡ 0 → ⊥) → 0 < unsigned_abs (value_of w b)
 nonzero_value w b below apart =
     elim (signed_value-cases (bits_of w) b below) [
-      inl c ↦ subst (λ z. 0 < unsigned_abs z) (sym c.1) (omega (arith, apart))
-    | inr c ↦ subst (λ z. 0 < unsigned_abs z) (sym c.1) (omega arith)
+      | inl c ↦ subst (λ z. 0 < unsigned_abs z) (sym c.1) (omega (arith, apart))
+      | inr c ↦ subst (λ z. 0 < unsigned_abs z) (sym c.1) (omega arith)
     ]
 
 -- the value of a signed quotient or remainder, which lies in the range
 result_value : (w : Width) (divide : ℤ → ℤ → ℤ) (a b q : ℕ) → IsPattern w a → IsPattern w b
     → ((x y : ℤ) → InRange (2 ^ (bits_of w - 1)) x → InRange (2 ^ (bits_of w - 1)) y → Divides (2 ^ (bits_of w - 1)) x y
-        → InRange (2 ^ (bits_of w - 1)) (divide x y))
+    → InRange (2 ^ (bits_of w - 1)) (divide x y))
     → signed_division divide (bits_of w) a b ≡ Ok q
     → (0 < unsigned_abs (value_of w b)) × (value_of w q ≡ divide (value_of w a) (value_of w b))
 result_value w divide a b q pa pb fits e =
     let parts = trap_if-ok (signed_division_traps (bits_of w) a b) (pattern_of (bits_of w) (divide (value_of w a) (value_of w b))) q e in
     let safe = no_trap (bits_of w) a b parts.0 in
-    let divides : Divides (2 ^ (bits_of w - 1)) (value_of w a) (value_of w b) = λ x y. safe.1 (from_least w a pa x) (from_minus_one w b pb y) in
-    (
-        nonzero_value w b pb safe.0,
-        ap (value_of w) (sym parts.1)
-        ∙ signed_value-pattern_of w (divide (value_of w a) (value_of w b))
-            (fits (value_of w a) (value_of w b) (value_in_range w a pa) (value_in_range w b pb) divides)
+    let divides : Divides (2 ^ (bits_of w - 1)) (value_of w a) (value_of w b) = λ x y. safe.1 (from_least w a pa x) (from_minus_one w b pb y) in (
+      nonzero_value w b pb safe.0,
+      ap (value_of w) (sym parts.1)
+          ∙ signed_value-pattern_of w (divide (value_of w a) (value_of w b))
+          (fits (value_of w a) (value_of w b) (value_in_range w a pa) (value_in_range w b pb) divides),
     )
 
 pub divides_toward_zero : SignedDivisionLaw
@@ -253,16 +253,16 @@ divides_toward_zero w a b q r pa pb eq er =
     let quotient = result_value w int_div a b q pa pb (int_div-in_range (2 ^ (bits_of w - 1))) eq in
     let rest = result_value w int_rem a b r pa pb (λ x y f g d. int_rem-in_range (2 ^ (bits_of w - 1)) x y f) er in
     subst (λ z. IsDivisionTowardZero x y z (value_of w r)) (sym quotient.1)
-        (subst (λ z. IsDivisionTowardZero x y (int_div x y) z) (sym rest.1) (toward_zero x y quotient.0))
+    (subst (λ z. IsDivisionTowardZero x y (int_div x y) z) (sym rest.1) (toward_zero x y quotient.0))
 
 pub rounds_down_and_up : RoundedDivisionLaw
 rounds_down_and_up w a b q pa pb = (
-    λ e.
-        let down = result_value w floor_div a b q pa pb (floor_div-in_range (2 ^ (bits_of w - 1))) e in
-        subst (λ z. IsFloor (value_of w a) (value_of w b) z) (sym down.1) (rounded_down (value_of w a) (value_of w b)),
-    λ e.
-        let up = result_value w ceil_div a b q pa pb (ceil_div-in_range (2 ^ (bits_of w - 1))) e in
-        subst (λ z. IsCeiling (value_of w a) (value_of w b) z) (sym up.1) (rounded_up (value_of w a) (value_of w b))
+  λ e.
+      let down = result_value w floor_div a b q pa pb (floor_div-in_range (2 ^ (bits_of w - 1))) e in
+      subst (λ z. IsFloor (value_of w a) (value_of w b) z) (sym down.1) (rounded_down (value_of w a) (value_of w b)),
+  λ e.
+      let up = result_value w ceil_div a b q pa pb (ceil_div-in_range (2 ^ (bits_of w - 1))) e in
+      subst (λ z. IsCeiling (value_of w a) (value_of w b) z) (sym up.1) (rounded_up (value_of w a) (value_of w b)),
 )
 
 ceiling : (q r b a : ℕ) → q * b + r ≡ a → r < b → (a ≤ (q + min 1 r) * b) × ((q + min 1 r) * b < a + b)
@@ -277,10 +277,9 @@ divides_unsigned w a b q r c eq er ec =
     let rest = trap_if-ok (b == 0) (a % b) r er in
     let up = trap_if-ok (b == 0) (div_ceil a b) c ec in
     let above : 0 < b = omega (arith, eqb-false b 0 quotient.0) in
-    let bounds = ceiling (a / b) (a % b) b a (div-add-mod' a b) (mod_below a b above) in
-    (
-        subst (λ z. z * b + r ≡ a) quotient.1 (subst (λ z. a / b * b + z ≡ a) rest.1 (div-add-mod' a b)),
-        subst (λ z. z < b) rest.1 (mod_below a b above),
-        subst (λ z. a ≤ z * b) up.1 bounds.0,
-        subst (λ z. z * b < a + b) up.1 bounds.1
+    let bounds = ceiling (a / b) (a % b) b a (div-add-mod' a b) (mod_below a b above) in (
+      subst (λ z. z * b + r ≡ a) quotient.1 (subst (λ z. a / b * b + z ≡ a) rest.1 (div-add-mod' a b)),
+      subst (λ z. z < b) rest.1 (mod_below a b above),
+      subst (λ z. a ≤ z * b) up.1 bounds.0,
+      subst (λ z. z * b < a + b) up.1 bounds.1,
     )

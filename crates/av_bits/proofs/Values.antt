@@ -33,8 +33,8 @@ pub signed_value-cases : (k p : ℕ) → p < 2 ^ k
     → ((p < 2 ^ (k - 1)) × (signed_value k p ≡ pos p)) ⊎ ((2 ^ (k - 1) ≤ p) × (signed_value k p ≡ negsuc (2 ^ k - suc p)))
 signed_value-cases k p below =
     elim (cases_lt p (2 ^ (k - 1))) [
-      inl low ↦ inl (low, signed_value-low k p low)
-    | inr high ↦ inr (high, signed_value-high k p high below)
+      | inl low ↦ inl (low, signed_value-low k p low)
+      | inr high ↦ inr (high, signed_value-high k p high below)
     ]
 
 pub pattern_of-pos : (k n : ℕ) → n < 2 ^ k → pattern_of k (pos n) ≡ n
@@ -63,18 +63,18 @@ wraps_by_multiples w z = (IsPattern-pattern_of (bits_of w) z, multiple (bits_of 
 pub value_in_range : (w : Width) (p : ℕ) → IsPattern w p → IsSignedValue w (value_of w p)
 value_in_range w p below =
     elim (signed_value-cases (bits_of w) p below) [
-      inl c ↦ rw c.1 (omega (arith, ints), omega (arith, ints))
-    | inr c ↦ rw c.1 (omega (arith, ints, halves w), omega (arith, ints, halves w))
+      | inl c ↦ rw c.1 (omega (arith, ints), omega (arith, ints))
+      | inr c ↦ rw c.1 (omega (arith, ints, halves w), omega (arith, ints, halves w))
     ]
 
 pub pattern_of-signed_value : (w : Width) (p : ℕ) → IsPattern w p → pattern_of (bits_of w) (value_of w p) ≡ p
 pattern_of-signed_value w p below =
     elim (signed_value-cases (bits_of w) p below) [
-      inl c ↦ ap (pattern_of (bits_of w)) c.1 ∙ pattern_of-pos (bits_of w) p below
-    | inr c ↦
-        ap (pattern_of (bits_of w)) c.1
-        ∙ pattern_of-negsuc (bits_of w) (2 ^ bits_of w - suc p) (omega arith)
-        ∙ back p (2 ^ bits_of w) below
+      | inl c ↦ ap (pattern_of (bits_of w)) c.1 ∙ pattern_of-pos (bits_of w) p below
+      | inr c ↦
+          ap (pattern_of (bits_of w)) c.1
+          ∙ pattern_of-negsuc (bits_of w) (2 ^ bits_of w - suc p) (omega arith)
+          ∙ back p (2 ^ bits_of w) below
     ]
   where
     back : (p m : ℕ) → p < m → m - suc (m - suc p) ≡ p
