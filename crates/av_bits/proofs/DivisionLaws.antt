@@ -1,5 +1,5 @@
 -- The divisions against the laws of arithmetic.
-use Rattle.std.proofs.Common.{◌≡◌, ◌↔◌, ℕ, zero, suc, min, subst, ◌+◌, ◌-◌, ◌*◌, ◌/◌, ◌%◌, ◌^◌, ◌<◌, ◌≤◌, ◌⊎◌, inl, inr, refl, sym, ◌∙◌, ap, arith, Bool, true, false, ◌&&◌, ◌||◌, Ok, Result}
+use Rattle.std.proofs.Common.{◌≡◌, ℕ, zero, suc, min, subst, ◌+◌, ◌-◌, ◌*◌, ◌/◌, ◌%◌, ◌^◌, ◌<◌, ◌≤◌, inl, inr, refl, sym, ◌∙◌, ap, arith, Bool, true, false, ◌&&◌, ◌||◌, Ok}
 use Rattle.std.specs.Prelude.{ℤ, pos, negsuc, neg_ℤ, ◌+ℤ◌, ◌-ℤ◌, ◌*ℤ◌, ◌<ℤ◌, ◌≤ℤ◌, int_div, int_rem, unsigned_abs, ◌==◌}
 use Rattle.std.specs.Int.{int_div_euclid, div_ceil}
 use Rattle.std.proofs.Math.Nat.{div-le_self, div-lt_self, mod-le}
@@ -7,10 +7,9 @@ use Rattle.std.proofs.lemmas.Bool.{eqb-true, eqb-false, eq-eqb, true≢false, fa
 use Rattle.std.proofs.lemmas.Nat.{mod_below, div-add-mod', pow_pos}
 use Rattle.std.proofs.lemmas.Int.{ints, quot-rem, rem_below}
 use Rattle.av_bits.specs.declared.types.Width.{Width}
-use Rattle.av_bits.specs.declared.types.DivideTrap.{DivideTrap}
-use Rattle.av_bits.specs.Pattern.{bits_of, IsPattern, pattern_of, signed_value}
+use Rattle.av_bits.specs.Pattern.{bits_of, IsPattern, pattern_of}
 use Rattle.av_bits.specs.Scalar.{floor_div, ceil_div, signed_division_traps, signed_division, trap_if}
-use Rattle.av_bits.specs.Laws.{value_of, IsSignedValue, IsDivisionTowardZero, IsFloor, IsCeiling, TrapLaw, SignedDivisionLaw, RoundedDivisionLaw, UnsignedDivisionLaw}
+use Rattle.av_bits.specs.Laws.{value_of, IsDivisionTowardZero, IsFloor, IsCeiling, TrapLaw, SignedDivisionLaw, RoundedDivisionLaw, UnsignedDivisionLaw}
 use Rattle.av_bits.proofs.Values.{halves, signed_value-cases, signed_value-low, signed_value-high, signed_value-pattern_of, value_in_range}
 
 -- ---- over whole numbers

@@ -1,18 +1,17 @@
 -- The kinds combine patterns in any order and grouping, and have neutral elements.
-use Rattle.std.proofs.Common.{◌≡◌, ℕ, zero, suc, ◌+◌, ◌-◌, ◌*◌, ◌%◌, ◌^◌, ◌<◌, ◌≤◌, ◌⊎◌, inl, inr, min, max, refl, sym, ◌∙◌, ap, arith, Bool, true, false, add_comm, add_assoc, Ok, subst}
-use Rattle.std.specs.Prelude.{ℤ, pos, negsuc, neg_ℤ, ◌<ℤ◌, ◌≤ℤ◌, int_lt, if◌then◌else◌, bit_and, bit_or, bit_xor}
+use Rattle.std.proofs.Common.{◌≡◌, ℕ, ◌+◌, ◌-◌, ◌*◌, ◌%◌, ◌^◌, ◌<◌, ◌⊎◌, inl, inr, min, max, refl, sym, ◌∙◌, ap, arith, Bool, true, false, add_comm}
+use Rattle.std.specs.Prelude.{ℤ, pos, neg_ℤ, ◌<ℤ◌, ◌≤ℤ◌, int_lt, if◌then◌else◌, bit_and, bit_or, bit_xor}
 use Rattle.std.specs.Int.{bit_at}
 use Rattle.std.specs.Int.Bits.{or_zero_l, xor_zero_l, xor_assoc}
-use Rattle.std.proofs.Math.Nat.{mod-eq_of_lt, mod-add-mod, add-mod-mod, mul_comm, mul_assoc, one-mul}
-use Rattle.std.proofs.lemmas.Bool.{cases_Bool, cond_both, true≢false, false≢true}
+use Rattle.std.proofs.Math.Nat.{mod-eq_of_lt, mod-add-mod, add-mod-mod, mul_comm, mul_assoc}
+use Rattle.std.proofs.lemmas.Bool.{cases_Bool, cond_both}
 use Rattle.std.proofs.lemmas.Nat.{mod_below, pow_pos, and_le_l, and_comm, and_assoc, and_mask, or_lt, or_comm, xor_lt, xor_comm, mul-mod_first, mul-mod_second}
 use Rattle.std.proofs.lemmas.Nat.Bits.{bit_at_or, same_from_bits}
 use Rattle.std.proofs.lemmas.Int.{ints}
 use Rattle.av_bits.specs.declared.types.Width.{Width}
-use Rattle.av_bits.specs.declared.types.Kind9.{Kind9}
 use Rattle.av_bits.specs.declared.types.Kind9.TheVariants.{Add, Mul, And, Or, Xor, Minsi, Minui, Maxsi, Maxui}
-use Rattle.av_bits.specs.Pattern.{bits_of, IsPattern, pattern_of, signed_value}
-use Rattle.av_bits.specs.Laws.{value_of, IsSignedValue, KindLaw}
+use Rattle.av_bits.specs.Pattern.{bits_of, IsPattern, pattern_of}
+use Rattle.av_bits.specs.Laws.{value_of, KindLaw}
 use Rattle.av_bits.proofs.Values.{halves, signed_value-low, value_in_range, pattern_of-signed_value}
 use Rattle.av_bits.proofs.DivisionLaws.{value-least}
 
