@@ -1,1 +1,4 @@
 pub mod Rounding
+pub mod Values
+pub mod DivisionLaws
+pub mod KindLaws

@@ -1,5 +1,5 @@
 -- The quotient that is rounded down or up, from the one that is rounded toward zero and its remainder.
-use Rattle.std.proofs.Common.{◌≡◌, ℕ, zero, suc, ◌+◌, ◌*◌, ◌/◌, ◌%◌, ◌<◌, ◌≤◌, refl, sym, ◌∙◌, ap, arith}
+use Rattle.std.proofs.Common.{◌≡◌, ℕ, zero, suc, ◌+◌, ◌*◌, ◌/◌, ◌%◌, ◌<◌, refl, sym, ◌∙◌, ap, arith}
 use Rattle.std.specs.Prelude.{ℤ, pos, negsuc, neg_ℤ, ◌+ℤ◌, ◌-ℤ◌, ◌<ℤ◌, ◌≤ℤ◌, int_div, int_rem}
 use Rattle.std.proofs.Math.Nat.{div-eq_of_lt-le, suc-mul, zero-mul}
 use Rattle.std.proofs.lemmas.Nat.{mod_below, div-add-mod'}

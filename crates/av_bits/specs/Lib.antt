@@ -1,3 +1,4 @@
 pub mod Pattern
 pub mod Scalar
 pub mod Kinds
+pub mod Laws

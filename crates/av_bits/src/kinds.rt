@@ -1,7 +1,8 @@
 ghost use Rattle.std.specs.Prelude.{◌≡◌};
 ghost use Rattle.av_bits.specs.Pattern.{IsPattern};
-ghost use Rattle.av_bits.specs.Kinds.{neutral_of, operation_of};
+ghost use Rattle.av_bits.specs.Kinds.{combine_of, neutral_of, operation_of};
 
+use crate::operations::binary;
 use crate::pattern::{all_ones, top_bit};
 use crate::types::{BinOp, Kind9, Width};
 
@@ -34,4 +35,15 @@ pub fn neutral(kind: Kind9, width: Width) -> u64
         Kind9::Minsi => top_bit(width) - 1,
         Kind9::Maxsi => top_bit(width),
     }
+}
+
+/// The pattern that the kind makes of the patterns `a` and `b` of the width. Their order and grouping
+/// make no difference.
+pub fn combine(kind: Kind9, width: Width, a: u64, b: u64) -> u64
+    requires first { IsPattern width a }
+    requires second { IsPattern width b }
+    ensures value { result ≡ combine_of kind width a b }
+    ensures pattern { IsPattern width result }
+{
+    binary(op_of_kind(kind), width, a, b).unwrap()
 }

@@ -8,6 +8,7 @@ mod casts;
 mod comparisons;
 mod divisions;
 mod kinds;
+pub mod laws;
 mod operations;
 mod pattern;
 mod shifts;
@@ -15,7 +16,7 @@ mod types;
 
 pub use casts::cast;
 pub use comparisons::compare;
-pub use kinds::{neutral, op_of_kind};
+pub use kinds::{combine, neutral, op_of_kind};
 pub use operations::binary;
 pub use pattern::{signed, wrap};
 pub use types::{BinOp, CastOp, DivideTrap, Kind9, Pred, Width};

@@ -102,22 +102,41 @@ fn compares_signed_and_unsigned(rt: HostRuntime) {
 
 #[test]
 fn casts_by_sign_and_by_zeros(rt: HostRuntime) {
-    assert_eq!(rt; cast(CastOp::Extsi, Width::W8, Width::W16, 0x80), 0xff80);
-    assert_eq!(rt; cast(CastOp::Extsi, Width::W1, Width::W8, 1), 0xff);
-    assert_eq!(rt; cast(CastOp::Extui, Width::W8, Width::W16, 0x80), 0x80);
-    assert_eq!(rt; cast(CastOp::Trunci, Width::W16, Width::W8, 0x1f9), 0xf9);
+    let rows = [
+        (CastOp::Extsi, Width::W8, Width::W16, 0x80, 0xff80),
+        (CastOp::Extsi, Width::W1, Width::W8, 1, 0xff),
+        (CastOp::Extui, Width::W8, Width::W16, 0x80, 0x80),
+        (CastOp::Trunci, Width::W16, Width::W8, 0x1f9, 0xf9),
+        (
+            CastOp::IndexCast,
+            Width::W32,
+            Width::W64,
+            0x8000_0000,
+            0xffff_ffff_8000_0000,
+        ),
+        (CastOp::IndexCast, Width::W64, Width::W8, 0x1f9, 0xf9),
+        (
+            CastOp::IndexCastui,
+            Width::W32,
+            Width::W64,
+            0x8000_0000,
+            0x8000_0000,
+        ),
+    ];
+    for (op, from, to, a, want) in rows {
+        assert_eq!(rt; cast(op, from, to, wrap(from, a)), want, "{op:?}");
+    }
+    assert_eq!(rt; signed(Width::W8, wrap(Width::W8, -128)), -128);
+    assert_eq!(rt; signed(Width::W1, wrap(Width::W1, 1)), -1);
     assert_eq!(rt;
-        cast(CastOp::IndexCast, Width::W32, Width::W64, 0x8000_0000),
-        0xffff_ffff_8000_0000
+        combine(
+            Kind9::Maxsi,
+            Width::W8,
+            wrap(Width::W8, -7),
+            wrap(Width::W8, 2)
+        ),
+        2
     );
-    assert_eq!(rt; cast(CastOp::IndexCast, Width::W64, Width::W8, 0x1f9), 0xf9);
-    assert_eq!(rt;
-        cast(CastOp::IndexCastui, Width::W32, Width::W64, 0x8000_0000),
-        0x8000_0000
-    );
-    assert_eq!(rt; signed(Width::W8, 0x80), -128);
-    assert_eq!(rt; signed(Width::W1, 1), -1);
-    assert_eq!(rt; wrap(Width::W16, -1), 0xffff);
 }
 
 #[test]

@@ -1,5 +1,5 @@
-use Rattle.std.proofs.Common.{◌≡◌, arith}
-use Rattle.std.specs.Prelude.{ℤ, pos, ◌<ℤ◌, ◌≤ℤ◌, int_div, int_rem, FitsSigned}
+use Rattle.std.proofs.Common.{arith}
+use Rattle.std.specs.Prelude.{FitsSigned}
 use Rattle.std.specs.Int.{w64}
 use Rattle.std.proofs.lemmas.Int.{ints, to_z-of_z}
 use Rattle.av_bits.proofs.Rounding.{ceil_div-above_inexact, ceil_div-above_exact, ceil_div-below_inexact, ceil_div-below_exact}
