@@ -21,7 +21,6 @@ use av_tree::{Tree, spelling_of};
 pub(crate) use stack::Fault as BuildFault;
 use stack::{Fault, Stack};
 use std::alloc::Global;
-use value::Value;
 
 /// The tree that a derivation makes.
 pub(crate) fn build(
@@ -43,10 +42,7 @@ pub(crate) fn build(
             }
         }
     }
-    match stack.pop()? {
-        Value::Tree(tree) => Ok(tree),
-        _ => Err(Fault::Misshapen),
-    }
+    stack.tree()
 }
 
 // What a row makes of the values of its symbols. A node of it stands at `place`.

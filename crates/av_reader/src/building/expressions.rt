@@ -160,11 +160,15 @@ fn joined(stack: &mut Stack) -> Result<(), Fault> {
 
 fn join(alloc: Global, left: Expression, part: Part) -> Result<Expression, Fault> {
     let Expression { expr, mut leaves } = left;
-    let mut more = part.right.leaves;
+    let Part { operator, right } = part;
+    let Expression {
+        expr: right,
+        leaves: mut more,
+    } = right;
     leaves.append(&mut more)?;
     let left = Held::new(alloc, expr)?;
-    let right = Held::new(alloc, part.right.expr)?;
-    let expr = match part.operator {
+    let right = Held::new(alloc, right)?;
+    let expr = match operator {
         Operator::Add => ExprText::Add(left, right),
         Operator::Sub => ExprText::Sub(left, right),
         Operator::Mul => ExprText::Mul(left, right),
