@@ -33,7 +33,7 @@ pub fn read_full<I: Source>(from: &mut I, into: &mut [u8]) -> Result<usize, Fail
         (λ n. Consumes (I.left from.old) (I.left from.new) (take n into.new)) }
     ensures end { IfOk result (λ n. n < length into.new → IsAtEnd (I.left from.new)) }
     ensures lost { OnErr result
-        ((bytes : List ℕ) × Consumes (I.left from.old) (I.left from.new) bytes) }
+        ((bytes : List ℕ) × (length bytes ≤ length into.new) × Consumes (I.left from.old) (I.left from.new) bytes) }
     ensures told { is_some (I.left from.new) ≡ is_some (I.left from.old) }
     ensures cause { HasCause (I.faults from.old) (I.faults from.new) result }
 {
