@@ -1,0 +1,19 @@
+-- What reading the input leaves of it.
+use Rattle.std.specs.Prelude.{◌≡◌, ℕ, List, length, Option}
+use Rattle.std.specs.Io.KnownBytes.{Consumes}
+use Rattle.av_io.specs.Devices.{Rose}
+use Rattle.av_top.specs.Outcome.{Taken, TakenAll}
+use Rattle.av_top.specs.declared.intake.Intake.{Intake}
+use Rattle.av_top.specs.declared.intake.Intake.TheVariants.{Text, TooMuch}
+use Rattle.av_top.specs.declared.intake.IntakeStop.{IntakeStop}
+use Rattle.av_top.specs.declared.intake.IntakeStop.TheVariants.{Fault, NoMemory}
+
+-- the text is all that was left, or a megabyte and one byte were taken
+abbrev pub IntakeEnds : Intake → Option (List ℕ) → Option (List ℕ) → Type 0
+IntakeEnds (Text bytes) left left' = TakenAll left left'
+IntakeEnds TooMuch left left' = (bytes : List ℕ) × (length bytes ≡ 1048577) × Consumes left left' bytes
+
+-- a fault only where the count rose
+abbrev pub IntakeStopped : IntakeStop → Option (List ℕ) → Option (List ℕ) → ℕ → ℕ → Type 0
+IntakeStopped Fault left left' faults faults' = Taken left left' × Rose faults faults'
+IntakeStopped NoMemory left left' faults faults' = (left' ≡ left) × (faults' ≡ faults)

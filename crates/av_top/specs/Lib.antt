@@ -1,0 +1,5 @@
+pub mod Request
+pub mod Outcome
+pub mod Number
+pub mod Intake
+pub mod Delivery

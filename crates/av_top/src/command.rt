@@ -1,0 +1,110 @@
+//! The command as a whole.
+
+ghost use Rattle.std.specs.Prelude.{◌≡◌, ◌≤◌, ◌⊎◌, codes, length};
+ghost use Rattle.av_top.specs.Request.{AsksNothing, texts};
+ghost use Rattle.av_top.specs.Outcome.{InputAfter, SinksAfter, RefusalEnds, IsAnswered};
+
+use crate::answer::{Refusal, answer};
+use crate::delivery::{Delivery, deliver, note};
+use crate::intake::{Intake, IntakeStop, read_input};
+use crate::request::{Request, request_of};
+use crate::status::Status;
+use av_io::{Sink, Source};
+use std::alloc::Global;
+
+/// Does what the words ask for: reads `input`, and writes the module's text to `output` and the report
+/// to `notes`. The words are those after the program's name.
+///
+/// A refusal leaves `output` as it was, and its line is offered to `notes`.
+pub fn affvec<I: Source, O: Sink, N: Sink>(
+    alloc: Global,
+    words: &[String],
+    input: &mut I,
+    output: &mut O,
+    notes: &mut N,
+) -> Status
+    // The words alone decide on their refusal, but for memory.
+    ensures usage { result ≡ Status.BadUsage → AsksNothing (texts words.now) }
+    ensures usage_only { AsksNothing (texts words.now) → (result ≡ Status.BadUsage) ⊎ (result ≡ Status.NoMemory) }
+    ensures input { InputAfter result (I.left input.old) (I.left input.new) (I.faults input.old) (I.faults input.new) }
+    ensures sinks { SinksAfter result (O.held output.old) (O.held output.new) (O.faults output.old) (O.faults output.new) (N.held notes.old) (N.held notes.new) (N.faults notes.old) (N.faults notes.new) }
+{
+    match request_of(words) {
+        Some(request) => perform(alloc, request, input, output, notes),
+        None => refuse_usage(notes),
+    }
+}
+
+fn refuse_usage<N: Sink>(notes: &mut N) -> Status
+    ensures { RefusalEnds result Status.BadUsage (codes "affvec: usage\n") (N.held notes.old) (N.held notes.new) (N.faults notes.old) (N.faults notes.new) }
+{
+    if note(notes, b"affvec: usage\n").is_ok() {
+        Status::BadUsage
+    } else {
+        Status::NoMemory
+    }
+}
+
+fn refuse_read<N: Sink>(notes: &mut N) -> Status
+    ensures { RefusalEnds result Status.ReadFault (codes "affvec: read fault\n") (N.held notes.old) (N.held notes.new) (N.faults notes.old) (N.faults notes.new) }
+{
+    if note(notes, b"affvec: read fault\n").is_ok() {
+        Status::ReadFault
+    } else {
+        Status::NoMemory
+    }
+}
+
+fn refuse_unbuilt<N: Sink>(notes: &mut N) -> Status
+    ensures { RefusalEnds result Status.NotBuilt (codes "affvec: not built\n") (N.held notes.old) (N.held notes.new) (N.faults notes.old) (N.faults notes.new) }
+{
+    if note(notes, b"affvec: not built\n").is_ok() {
+        Status::NotBuilt
+    } else {
+        Status::NoMemory
+    }
+}
+
+// Reads the input, works the texts out, and delivers them.
+fn perform<I: Source, O: Sink, N: Sink>(
+    alloc: Global,
+    request: Request,
+    input: &mut I,
+    output: &mut O,
+    notes: &mut N,
+) -> Status
+    requires { (1 ≤ request.size) × (request.size ≤ 64) }
+    ensures usage { result ≡ Status.BadUsage → ⊥ }
+    ensures input { InputAfter result (I.left input.old) (I.left input.new) (I.faults input.old) (I.faults input.new) }
+    ensures sinks { SinksAfter result (O.held output.old) (O.held output.new) (O.faults output.old) (O.faults output.new) (N.held notes.old) (N.held notes.new) (N.faults notes.old) (N.faults notes.new) }
+{
+    match read_input(alloc, input) {
+        Ok(Intake::Text(bytes)) => work_out(alloc, request, bytes.as_slice(), output, notes),
+        Ok(Intake::TooMuch) => refuse_unbuilt(notes),
+        Err(IntakeStop::Fault) => refuse_read(notes),
+        Err(IntakeStop::NoMemory) => Status::NoMemory,
+    }
+}
+
+// Works the texts out, and delivers them.
+fn work_out<O: Sink, N: Sink>(
+    alloc: Global,
+    request: Request,
+    bytes: &[u8],
+    output: &mut O,
+    notes: &mut N,
+) -> Status
+    requires { (1 ≤ request.size) × (request.size ≤ 64) × (length bytes.now ≤ 1048576) }
+    ensures kind { IsAnswered result }
+    ensures sinks { SinksAfter result (O.held output.old) (O.held output.new) (O.faults output.old) (O.faults output.new) (N.held notes.old) (N.held notes.new) (N.faults notes.old) (N.faults notes.new) }
+{
+    match answer(alloc, request, bytes) {
+        Ok(answer) => match deliver(&answer.text, &answer.report, output, notes) {
+            Delivery::Done => Status::Done,
+            Delivery::Fault => Status::WriteFault,
+            Delivery::NoMemory => Status::NoMemory,
+        },
+        Err(Refusal::NotBuilt) => refuse_unbuilt(notes),
+        Err(Refusal::NoMemory) => Status::NoMemory,
+    }
+}
