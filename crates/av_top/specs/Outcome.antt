@@ -41,7 +41,7 @@ Noted line held held' faults faults' = Whole line held held' faults faults' ⊎ 
 abbrev pub InputAfter : Status → Option (List ℕ) → Option (List ℕ) → ℕ → ℕ → Type 0
 InputAfter BadUsage left left' faults faults' = (left' ≡ left) × (faults' ≡ faults)
 InputAfter ReadFault left left' faults faults' = Taken left left' × Rose faults faults'
-InputAfter NoMemory left left' faults faults' = Taken left left' × (faults' ≡ faults)
+InputAfter NoMemory left left' faults faults' = Taken left left' × (faults ≤ faults')
 InputAfter NotBuilt left left' faults faults' = TakenAllOrMany left left' × (faults' ≡ faults)
 InputAfter WriteFault left left' faults faults' = TakenAll left left' × (faults' ≡ faults)
 InputAfter Done left left' faults faults' = TakenAll left left' × (faults' ≡ faults)

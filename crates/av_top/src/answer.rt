@@ -8,7 +8,7 @@ use std::alloc::Global;
 
 /// The texts of the output and of the notes.
 #[derive(Drop)]
-pub struct Answer {
+pub struct Texts {
     pub text: Text,
     pub report: Text,
 }
@@ -21,9 +21,11 @@ pub enum Refusal {
 }
 
 /// The answer to a request on an input.
-pub fn answer(alloc: Global, request: Request, bytes: &[u8]) -> Result<Answer, Refusal>
+pub fn answer(alloc: Global, request: Request, bytes: &[u8]) -> Result<Texts, Refusal>
     requires { (1 ≤ request.size) × (request.size ≤ 64) × (length bytes.now ≤ 1048576) }
 {
-    let _ = (alloc, request, bytes);
+    let _ = alloc;
+    let _ = request;
+    let _ = bytes;
     Err(Refusal::NotBuilt)
 }

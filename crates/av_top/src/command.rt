@@ -99,7 +99,7 @@ fn work_out<O: Sink, N: Sink>(
     ensures sinks { SinksAfter result (O.held output.old) (O.held output.new) (O.faults output.old) (O.faults output.new) (N.held notes.old) (N.held notes.new) (N.faults notes.old) (N.faults notes.new) }
 {
     match answer(alloc, request, bytes) {
-        Ok(answer) => match deliver(&answer.text, &answer.report, output, notes) {
+        Ok(texts) => match deliver(&texts.text, &texts.report, output, notes) {
             Delivery::Done => Status::Done,
             Delivery::Fault => Status::WriteFault,
             Delivery::NoMemory => Status::NoMemory,

@@ -35,9 +35,8 @@ pub fn read_input<I: Source>(alloc: Global, input: &mut I) -> Result<Intake, Int
     ensures count { OnOk result (I.faults input.new ≡ I.faults input.old) }
     ensures err { IfErr result (λ stop. IntakeStopped stop (I.left input.old) (I.left input.new) (I.faults input.old) (I.faults input.new)) }
 {
-    let mut buffer = match vec![in alloc; 0u8; MOST_BYTES + 1] {
-        Ok(buffer) => buffer,
-        Err(_) => return Err(IntakeStop::NoMemory),
+    let Ok(mut buffer) = zeros(alloc, MOST_BYTES + 1) else {
+        return Err(IntakeStop::NoMemory);
     };
     match read_full(input, buffer.as_mut_slice()) {
         Ok(count) => {
@@ -49,4 +48,11 @@ pub fn read_input<I: Source>(alloc: Global, input: &mut I) -> Result<Intake, Int
         }
         Err(_) => Err(IntakeStop::Fault),
     }
+}
+
+// A buffer of so many bytes.
+fn zeros(alloc: Global, count: usize) -> Result<Vec<u8>, AllocError>
+    ensures { IfOk result (λ buffer. vec_len buffer ≡ count) }
+{
+    vec![in alloc; 0u8; count]
 }

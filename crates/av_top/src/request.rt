@@ -1,6 +1,6 @@
 //! Words: what is asked for.
 
-ghost use Rattle.std.specs.Prelude.{◌≡◌, ◌+◌, ◌≤◌, ◌×◌, MatchOption};
+ghost use Rattle.std.specs.Prelude.{◌≡◌, ℕ, ◌+◌, ◌/◌, ◌%◌, ◌≤◌, [], ◌∷◌, MatchOption};
 ghost use Rattle.av_top.specs.Request.{IsVectorize, AsksNothing, texts, number};
 
 /// What the words ask for: `vectorize --sizes S`.
@@ -16,30 +16,61 @@ pub fn request_of(words: &[String]) -> Option<Request>
 {
     match words {
         [command, option, size] => {
-            if command.as_str() == "vectorize" && option.as_str() == "--sizes" {
-                size_of(size.as_bytes()).map(|size| Request { size })
-            } else {
-                None
-            }
+            vectorize_of(command.as_bytes(), option.as_bytes(), size.as_bytes())
         }
         _ => None,
     }
 }
 
+// The request of three words, if they are one.
+fn vectorize_of(command: &[u8], option: &[u8], size: &[u8]) -> Option<Request>
+    ensures { MatchOption result (AsksNothing (command.now ∷ option.now ∷ size.now ∷ [])) (λ r. IsVectorize (command.now ∷ option.now ∷ size.now ∷ []) r.size) }
+{
+    if command != b"vectorize".as_slice() || option != b"--sizes".as_slice() {
+        return None;
+    }
+    match size_of(size) {
+        Some(size) => Some(Request { size }),
+        None => None,
+    }
+}
+
 // The size that a text spells, from 1 to 64.
 fn size_of(text: &[u8]) -> Option<u16>
-    ensures none { MatchOption result ((n : ℕ) → 1 ≤ n → n ≤ 64 → text.now ≡ number n → ⊥) (λ n. (1 ≤ n) × (n ≤ 64) × (text.now ≡ number n)) }
+    ensures { MatchOption result ((n : ℕ) → 1 ≤ n → n ≤ 64 → text.now ≡ number n → ⊥) (λ n. (1 ≤ n) × (n ≤ 64) × (text.now ≡ number n)) }
 {
-    let size = match text {
-        [digit] => value_of(*digit)?,
-        [tens, ones] => 10 * value_of(*tens)? + value_of(*ones)?,
-        _ => return None,
+    match text {
+        [digit] => one_digit(*digit),
+        [tens, ones] => two_digits(*tens, *ones),
+        _ => None,
+    }
+}
+
+// The size that one digit spells, from 1 to 9.
+fn one_digit(digit: u8) -> Option<u16>
+    ensures { MatchOption result ((n : ℕ) → 1 ≤ n → n ≤ 9 → digit ≡ 48 + n → ⊥) (λ n. (1 ≤ n) × (n ≤ 9) × (digit ≡ 48 + n)) }
+{
+    let Some(size) = value_of(digit) else {
+        return None;
     };
-    let leading = text.len() == 2 && size < 10;
-    if size == 0 || size > 64 || leading {
-        None
-    } else {
+    if size > 0 { Some(size) } else { None }
+}
+
+// The size that two digits spell, from 10 to 64.
+fn two_digits(tens: u8, ones: u8) -> Option<u16>
+    ensures { MatchOption result ((n : ℕ) → 10 ≤ n → n ≤ 64 → tens ≡ 48 + n / 10 → ones ≡ 48 + n % 10 → ⊥) (λ n. (10 ≤ n) × (n ≤ 64) × (tens ≡ 48 + n / 10) × (ones ≡ 48 + n % 10)) }
+{
+    let Some(high) = value_of(tens) else {
+        return None;
+    };
+    let Some(low) = value_of(ones) else {
+        return None;
+    };
+    let size = 10 * high + low;
+    if high > 0 && size <= 64 {
         Some(size)
+    } else {
+        None
     }
 }
 
