@@ -1,5 +1,5 @@
 -- A text has one list of tokens, or one first fault.
-use Rattle.std.proofs.Common.{◌≡◌, ℕ, ◌+◌, ◌-◌, ◌<◌, ◌≤◌, ◌⊎◌, inl, inr, List, [], ◌∷◌, ◌++◌, Bool, length, drop, true, false, refl, sym, ◌∙◌, ap, subst, arith, length-drop, Result, Ok, Err}
+use Rattle.std.proofs.Common.{◌≡◌, ℕ, ◌+◌, ◌≤◌, inl, inr, List, [], ◌∷◌, ◌++◌, length, drop, false, refl, sym, ◌∙◌, ap, subst, arith, length-drop, Result, Ok, Err}
 use Rattle.std.specs.Prelude.{slice_index}
 use Rattle.std.proofs.lemmas.Bool.{cases_lt}
 use Rattle.av_lex.specs.declared.token.Kind.{Kind}
@@ -8,7 +8,7 @@ use Rattle.av_lex.specs.declared.token.Token.{Token}
 use Rattle.av_lex.specs.declared.token.LexFault.{LexFault}
 use Rattle.av_lex.specs.declared.token.LexFault.TheVariants.{BadByte, LongNumber, NoMemory}
 use Rattle.av_lex.specs.declared.class.Class.TheVariants as classes
-use Rattle.av_lex.specs.Bytes.{in_class, Run}
+use Rattle.av_lex.specs.Bytes.{in_class}
 use Rattle.av_lex.specs.Spellings.{Spelling, Spells, Longest, IsShort, digits_from, Separates, IsComment, IsBlank}
 use Rattle.av_lex.specs.Tokens.{Lexed, start, separator, token, Tokens, BadAt, LongAt, FaultOf, bad, long, LexesTo, OnlyTokens, OnlyFault}
 use Rattle.av_lex.proofs.KindOf.{kind_of, mark_kind, single_kind, kind_at, at_least_one, one_kind}
@@ -17,8 +17,9 @@ use Rattle.av_lex.proofs.Runs.{both, end_no_comment, not_in}
 -- two comments at one place are equally long
 comment_le : (r : List ℕ) (n m : ℕ) → m ≤ length r → IsComment r n → IsComment r m → m ≤ n
 comment_le r n m hm h k = elim (cases_lt n m) [
-    inl lt ↦ (let two : 2 ≤ n = h.0 in both classes.Comment (slice_index r n) (k.3 n two lt) (not_in classes.Comment (slice_index r n) 10 (h.4 (omega arith)) end_no_comment))
-  | inr ge ↦ ge ]
+  | inl lt ↦ (let two : 2 ≤ n = h.0 in both classes.Comment (slice_index r n) (k.3 n two lt) (not_in classes.Comment (slice_index r n) 10 (h.4 (omega arith)) end_no_comment))
+  | inr ge ↦ ge
+]
 
 blank_no_comment : (c : ℕ) → IsBlank c → c ≡ 47 → ⊥
 blank_no_comment c (inl h) e = let a : c ≡ 32 = h in absurd (omega arith)
@@ -29,14 +30,16 @@ blank_no_comment c (inr (inr (inr h))) e = let a : c ≡ 10 = h in absurd (omega
 -- two separators at one place are equally long
 pub one_separator : (r : List ℕ) (n m : ℕ) → Separates r n → Separates r m → n ≡ m
 one_separator r n m h k = elim h.is [
-    inl b ↦ elim k.is [ inl d ↦ b.0 ∙ sym d.0 | inr d ↦ absurd (blank_no_comment _ b.1 d.1) ]
+  | inl b ↦ elim k.is [ inl d ↦ b.0 ∙ sym d.0 | inr d ↦ absurd (blank_no_comment _ b.1 d.1) ]
   | inr b ↦ elim k.is [
-        inl d ↦ absurd (blank_no_comment _ d.1 b.1)
-      | inr d ↦ (let le : m ≤ n = comment_le r n m k.within b d in let ge : n ≤ m = comment_le r m n h.within d b in omega arith) ] ]
+    | inl d ↦ absurd (blank_no_comment _ d.1 b.1)
+    | inr d ↦ (let le : m ≤ n = comment_le r n m k.within b d in let ge : n ≤ m = comment_le r m n h.within d b in omega arith)
+  ]
+]
 
 -- what separates is no token
 begins_no_word : (c : ℕ) (r : List ℕ) (k : Kind) (m : ℕ) → ((z n : ℕ) → kind_of c z n ≡ kinds.Word) → in_class classes.WordStart c ≡ false
-  → slice_index r 0 ≡ c → Spells k r m → ⊥
+    → slice_index r 0 ≡ c → Spells k r m → ⊥
 begins_no_word c r k m word no_start here h =
     let e : k ≡ kinds.Word = kind_at c k r m here h ∙ word _ m in
     let w = subst (λ (x : Kind). Spelling x r m) e h.spelled in
@@ -90,8 +93,9 @@ blank_no_token r k m (inr (inr (inr h))) s = begins_no_word 10 r k m line_word l
 
 pub separator_no_token : (r : List ℕ) (n m : ℕ) (k : Kind) → Separates r n → Spells k r m → ⊥
 separator_no_token r n m k h s = elim h.is [
-    inl b ↦ blank_no_token r k m b.1 s
-  | inr b ↦ begins_no_word 47 r k m slash_word slash_start b.1 s ]
+  | inl b ↦ blank_no_token r k m b.1 s
+  | inr b ↦ begins_no_word 47 r k m slash_word slash_start b.1 s
+]
 
 -- the longest spelling at a place is one
 pub one_longest : (r : List ℕ) (n m : ℕ) (k j : Kind) → Longest k r n → Longest j r m → (n ≡ m) × (k ≡ j)
@@ -106,7 +110,7 @@ data From (b : List ℕ) : ℕ → List Token → ℕ → Type 0 where
   stop : {p : ℕ} → From b p [] p
   apart : {p q : ℕ} {ts : List Token} (n : ℕ) → Separates (drop p b) n → From b (p + n) ts q → From b p ts q
   next : {p q : ℕ} {ts : List Token} (k : Kind) (n : ℕ) → Longest k (drop p b) n → IsShort k n → From b (p + n) ts q
-    → From b p (record { kind = k; place = p; length = n } ∷ ts) q
+      → From b p (record { kind = k; place = p; length = n } ∷ ts) q
 
 and_apart : (b : List ℕ) {p q : ℕ} {ts : List Token} (n : ℕ) → From b p ts q → Separates (drop q b) n → From b p ts (q + n)
 and_apart b n stop s = apart n s stop
@@ -114,7 +118,7 @@ and_apart b n (apart m t f) s = apart m t (and_apart b n f s)
 and_apart b n (next k m l i f) s = next k m l i (and_apart b n f s)
 
 and_next : (b : List ℕ) {p q : ℕ} {ts : List Token} (k : Kind) (n : ℕ) → From b p ts q → Longest k (drop q b) n → IsShort k n
-  → From b p (ts ++ record { kind = k; place = q; length = n } ∷ []) (q + n)
+    → From b p (ts ++ record { kind = k; place = q; length = n } ∷ []) (q + n)
 and_next b k n stop l i = next k n l i stop
 and_next b k n (apart m t f) l i = apart m t (and_next b k n f l i)
 and_next b k n (next j m h g f) l i = next j m h g (and_next b k n f l i)
@@ -147,7 +151,7 @@ one_from b {p} {q} (next j m h o g) z (next {ts = vs} k n l i f) s =
     (same_token p n m k j _ _ e.0 e.1 rest.0, rest.1)
   where
     same_token : (p n m : ℕ) (k j : Kind) (vs ws : List Token) → n ≡ m → k ≡ j → vs ≡ ws
-      → record { kind = k; place = p; length = n } ∷ vs ≡ record { kind = j; place = p; length = m } ∷ ws
+        → record { kind = k; place = p; length = n } ∷ vs ≡ record { kind = j; place = p; length = m } ∷ ws
     same_token p n m k j vs ws x y z = cc
 
 -- at the end of a text and at a fault all is stuck
@@ -156,27 +160,28 @@ no_room b n h = omega (arith, length-drop (length b) b)
 
 some_separator : (r : List ℕ) (n : ℕ) → Separates r n → 1 ≤ n
 some_separator r n s = elim s.is [
-    inl h ↦ (let e : n ≡ 1 = h.0 in omega arith)
-  | inr h ↦ (let e : 2 ≤ n = h.0 in omega arith) ]
+  | inl h ↦ (let e : n ≡ 1 = h.0 in omega arith)
+  | inr h ↦ (let e : 2 ≤ n = h.0 in omega arith)
+]
 
 end_stuck : (b : List ℕ) → Stuck b (length b)
 end_stuck b = record {
   separators = λ n s. (let a = some_separator (drop (length b) b) n s in let z = no_room b n s.within in absurd (omega arith));
-  tokens = λ k n l i. (let a = at_least_one k (drop (length b) b) n l.spells.spelled in let z = no_room b n l.spells.within in absurd (omega arith))
+  tokens = λ k n l i. (let a = at_least_one k (drop (length b) b) n l.spells.spelled in let z = no_room b n l.spells.within in absurd (omega arith));
 }
 
 bad_stuck : (b : List ℕ) (p n : ℕ) → BadAt (drop p b) n → Stuck b p
 bad_stuck b p n h = record {
   separators = λ m s. h.no_separator m s;
-  tokens = λ k m l i. h.no_token k m l.spells
+  tokens = λ k m l i. h.no_token k m l.spells;
 }
 
 long_stuck : (b : List ℕ) (p n : ℕ) → LongAt (drop p b) n → Stuck b p
 long_stuck b p n h = record {
   separators = λ m s. separator_no_token (drop p b) m h.size h.kind s h.longest.spells;
   tokens = λ k m l i. (
-    let e = one_longest (drop p b) m h.size k h.kind l h.longest in
-    h.long (subst (λ (j : Kind). IsShort j h.size) e.1 (subst (λ (x : ℕ). IsShort k x) e.0 i)))
+      let e = one_longest (drop p b) m h.size k h.kind l h.longest in
+      h.long (subst (λ (j : Kind). IsShort j h.size) e.1 (subst (λ (x : ℕ). IsShort k x) e.0 i)));
 }
 
 same_bad : (r : List ℕ) (n m : ℕ) → BadAt r n → BadAt r m → n ≡ m

@@ -15,7 +15,7 @@ pub apart : (b r : List ℕ) (ts : List Token) (at n : ℕ) → r ≡ drop at b 
 apart b r ts at n e l s = separator n l (subst (λ (x : List ℕ). Separates x n) e s)
 
 pub one_more : (b r : List ℕ) (ts us : List Token) (at n : ℕ) (k : Kind) → r ≡ drop at b → Lexed b ts at → Longest k r n → IsShort k n
-  → us ≡ ts ++ record { kind = k; place = at; length = n } ∷ [] → Lexed b us (at + n)
+    → us ≡ ts ++ record { kind = k; place = at; length = n } ∷ [] → Lexed b us (at + n)
 one_more b r ts us at n k e l h i same =
     subst (λ (vs : List Token). Lexed b vs (at + n)) (sym same) (token k n l (subst (λ (x : List ℕ). Longest k x n) e h) i)
 

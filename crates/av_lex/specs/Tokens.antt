@@ -10,7 +10,7 @@ pub data Lexed (b : List ℕ) : List Token → ℕ → Type 0 where
   start : Lexed b [] 0
   separator : {ts : List Token} {p : ℕ} (n : ℕ) → Lexed b ts p → Separates (drop p b) n → Lexed b ts (p + n)
   token : {ts : List Token} {p : ℕ} (k : Kind) (n : ℕ) → Lexed b ts p → Longest k (drop p b) n → IsShort k n
-    → Lexed b (ts ++ record { kind = k; place = p; length = n } ∷ []) (p + n)
+      → Lexed b (ts ++ record { kind = k; place = p; length = n } ∷ []) (p + n)
 
 -- the tokens of the text b
 abbrev pub Tokens : List ℕ → List Token → Type 0
