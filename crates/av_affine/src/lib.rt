@@ -12,6 +12,8 @@ mod laws;
 mod limits;
 mod results;
 mod seq;
+#[cfg(test)]
+mod tests;
 mod values;
 
 pub use duplicate::{Duplicate, duplicate_all};
