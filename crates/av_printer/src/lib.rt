@@ -1,0 +1,23 @@
+//! The spelling of trees: one text for each tree and form.
+//!
+//! `spell` makes the whole text, and `print` delivers it: the room for all of it is reserved before the
+//! first write, so want of memory leaves a sink as it was.
+#![tactic(auto)]
+
+mod attributes;
+mod expressions;
+mod form;
+mod generic;
+mod named;
+mod nodes;
+mod printing;
+mod subscripts;
+mod types;
+mod writer;
+
+pub use form::Form;
+pub use nodes::spell;
+pub use printing::{PrintFault, print};
+
+#[cfg(test)]
+mod tests;
