@@ -14,3 +14,6 @@ mod status;
 pub use command::affvec;
 pub use request::Request;
 pub use status::Status;
+
+#[cfg(test)]
+mod tests;
