@@ -1,5 +1,5 @@
 -- The kind of a token is told by its first byte, its last byte and its length.
-use Rattle.std.proofs.Common.{◌≡◌, ℕ, ◌+◌, ◌-◌, ◌<◌, ◌≤◌, ◌⊎◌, ◌==◌, inl, inr, List, [], ◌∷◌, Bool, length, true, false, cond, refl, sym, ◌∙◌, ap, subst, arith}
+use Rattle.std.proofs.Common.{◌≡◌, ℕ, ◌+◌, ◌-◌, ◌<◌, ◌≤◌, ◌==◌, inl, inr, List, Bool, length, true, false, cond, refl, sym, ◌∙◌, ap, arith}
 use Rattle.std.specs.Prelude.{slice_index}
 use Rattle.std.proofs.lemmas.Bool.Decides.{nat_tests}
 use Rattle.av_lex.specs.declared.token.Kind.{Kind}
@@ -7,31 +7,31 @@ use Rattle.av_lex.specs.declared.token.Kind.TheVariants as kinds
 use Rattle.av_lex.specs.declared.token.Sign.{Sign}
 use Rattle.av_lex.specs.declared.token.Sign.TheVariants.{OpenRound, CloseRound, OpenCurly, CloseCurly, OpenSquare, CloseSquare, OpenAngle, CloseAngle, Comma, Colon, Equal, Plus, Star, Minus, Question, Arrow, AtLeast, EqualEqual}
 use Rattle.av_lex.specs.declared.class.Class.TheVariants as classes
-use Rattle.av_lex.specs.Bytes.{in_class, Run}
-use Rattle.av_lex.specs.Spellings.{sign_text, Spelling, Spells, Longest}
+use Rattle.av_lex.specs.Bytes.{in_class}
+use Rattle.av_lex.specs.Spellings.{sign_text, Spelling, Spells}
 use Rattle.av_lex.proofs.Runs.{digit_no_word, digit_no_x}
 
 unfoldable pub single_kind : ℕ → Kind
 single_kind c =
-  cond (c == 40) (kinds.Sign OpenRound) (cond (c == 41) (kinds.Sign CloseRound)
-  (cond (c == 123) (kinds.Sign OpenCurly) (cond (c == 125) (kinds.Sign CloseCurly)
-  (cond (c == 93) (kinds.Sign CloseSquare) (cond (c == 60) (kinds.Sign OpenAngle)
-  (cond (c == 44) (kinds.Sign Comma) (cond (c == 58) (kinds.Sign Colon)
-  (cond (c == 43) (kinds.Sign Plus) (cond (c == 42) (kinds.Sign Star) kinds.Word)))))))))
+    cond (c == 40) (kinds.Sign OpenRound) (cond (c == 41) (kinds.Sign CloseRound)
+    (cond (c == 123) (kinds.Sign OpenCurly) (cond (c == 125) (kinds.Sign CloseCurly)
+    (cond (c == 93) (kinds.Sign CloseSquare) (cond (c == 60) (kinds.Sign OpenAngle)
+    (cond (c == 44) (kinds.Sign Comma) (cond (c == 58) (kinds.Sign Colon)
+    (cond (c == 43) (kinds.Sign Plus) (cond (c == 42) (kinds.Sign Star) kinds.Word)))))))))
 
 unfoldable pub mark_kind : ℕ → Bool → Kind
 mark_kind c one =
-  cond (c == 37) kinds.ValId (cond (c == 64) kinds.SymId (cond (c == 35) kinds.HashId
-  (cond (c == 94) kinds.CaretId (cond (c == 34) kinds.Quoted
-  (cond (c == 63) (cond one (kinds.Sign Question) kinds.DimX)
-  (cond (c == 91) (cond one (kinds.Sign OpenSquare) kinds.ScalX)
-  (cond (c == 45) (cond one (kinds.Sign Minus) (kinds.Sign Arrow))
-  (cond (c == 62) (cond one (kinds.Sign CloseAngle) (kinds.Sign AtLeast))
-  (cond (c == 61) (cond one (kinds.Sign Equal) (kinds.Sign EqualEqual)) (single_kind c))))))))))
+    cond (c == 37) kinds.ValId (cond (c == 64) kinds.SymId (cond (c == 35) kinds.HashId
+    (cond (c == 94) kinds.CaretId (cond (c == 34) kinds.Quoted
+    (cond (c == 63) (cond one (kinds.Sign Question) kinds.DimX)
+    (cond (c == 91) (cond one (kinds.Sign OpenSquare) kinds.ScalX)
+    (cond (c == 45) (cond one (kinds.Sign Minus) (kinds.Sign Arrow))
+    (cond (c == 62) (cond one (kinds.Sign CloseAngle) (kinds.Sign AtLeast))
+    (cond (c == 61) (cond one (kinds.Sign Equal) (kinds.Sign EqualEqual)) (single_kind c))))))))))
 
 unfoldable pub kind_of : ℕ → ℕ → ℕ → Kind
 kind_of c z n = cond (in_class classes.WordStart c) kinds.Word
-  (cond (in_class classes.Digit c) (cond (z == 120) kinds.DimX kinds.Number) (mark_kind c (n == 1)))
+    (cond (in_class classes.Digit c) (cond (z == 120) kinds.DimX kinds.Number) (mark_kind c (n == 1)))
 
 word_kind : (c z n : ℕ) → in_class classes.WordStart c ≡ true → kinds.Word ≡ kind_of c z n
 unfolding kind_of

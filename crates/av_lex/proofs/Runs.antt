@@ -1,11 +1,11 @@
 -- Classes of bytes and runs.
-use Rattle.std.proofs.Common.{◌≡◌, ℕ, ◌+◌, ◌<◌, ◌≤◌, ◌⊎◌, ◌==◌, inl, inr, List, [], ◌∷◌, ◌++◌, length, take, get_or, true, false, refl, sym, ◌∙◌, ap, subst, arith}
+use Rattle.std.proofs.Common.{◌≡◌, ℕ, ◌+◌, ◌<◌, ◌≤◌, ◌⊎◌, ◌==◌, inl, inr, List, ◌++◌, length, take, true, false, refl, sym, ◌∙◌, ap, subst, arith}
 use Rattle.std.specs.Prelude.{slice_index}
-use Rattle.std.proofs.lemmas.Bool.{cases_lt, false≢true, cases_Bool}
+use Rattle.std.proofs.lemmas.Bool.{cases_lt, false≢true}
 use Rattle.std.proofs.lemmas.Bool.Decides.{nat_tests}
 use Rattle.std.proofs.lemmas.List.{get_or-take, get_or-append_right, get_or_append_left, length-take-le}
 use Rattle.av_lex.specs.declared.class.Class.{Class}
-use Rattle.av_lex.specs.declared.class.Class.TheVariants.{Digit, WordStart, Word, NameStart, Name, Quoted, Comment}
+use Rattle.av_lex.specs.declared.class.Class.TheVariants.{Digit, WordStart, NameStart, Name, Quoted, Comment}
 use Rattle.av_lex.specs.Bytes.{in_class, Run}
 
 pub both : {X : Type 0} (class : Class) (c : ℕ) → in_class class c ≡ true → in_class class c ≡ false → X
@@ -21,7 +21,7 @@ run_stops class r a e m from stop run = go (cases_lt e m)
 
 -- a run within the text is no longer than one that stops at the end or before another byte
 pub run_within : (class : Class) (r : List ℕ) (a e m : ℕ) → a ≤ e
-  → (e < length r → in_class class (slice_index r e) ≡ false) → Run class r a m → m ≤ length r → m ≤ e
+    → (e < length r → in_class class (slice_index r e) ≡ false) → Run class r a m → m ≤ length r → m ≤ e
 run_within class r a e m from stop run within = go (cases_lt e m)
   where
     go : (e < m) ⊎ (m ≤ e) → m ≤ e
@@ -30,7 +30,7 @@ run_within class r a e m from stop run within = go (cases_lt e m)
 
 -- two runs, of which the first stops and the second is followed by a byte that is not of the class, end alike
 pub same_stop : (class : Class) (r : List ℕ) (a e m x : ℕ) → a ≤ e → a ≤ m → m < length r → Run class r a e
-  → (e < length r → in_class class (slice_index r e) ≡ false) → Run class r a m → slice_index r m ≡ x → in_class class x ≡ false → m ≡ e
+    → (e < length r → in_class class (slice_index r e) ≡ false) → Run class r a m → slice_index r m ≡ x → in_class class x ≡ false → m ≡ e
 same_stop class r a e m x from from' inside run stop run' here other = go (cases_lt m e)
   where
     go : (m < e) ⊎ (e ≤ m) → m ≡ e

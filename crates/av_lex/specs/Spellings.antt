@@ -30,12 +30,12 @@ sign_text EqualEqual = 61 ∷ 61 ∷ []
 -- the first n bytes of r are the byte `mark` and then digits alone, or what can begin a name and then bytes of names
 abbrev pub Named : ℕ → List ℕ → ℕ → Type 0
 Named mark r n = (slice_index r 0 ≡ mark) × (2 ≤ n)
-  × (Run classes.Digit r 1 n ⊎ ((in_class classes.NameStart (slice_index r 1) ≡ true) × Run classes.Name r 2 n))
+    × (Run classes.Digit r 1 n ⊎ ((in_class classes.NameStart (slice_index r 1) ≡ true) × Run classes.Name r 2 n))
 
 -- the first n bytes of r are d digits and `x`, or `?x`
 abbrev pub Sized : List ℕ → ℕ → Type 0
 Sized r n = ((d : ℕ) × (n ≡ d + 1) × (1 ≤ d) × Run classes.Digit r 0 d × (slice_index r d ≡ 120))
-  ⊎ ((n ≡ 2) × (slice_index r 0 ≡ 63) × (slice_index r 1 ≡ 120))
+    ⊎ ((n ≡ 2) × (slice_index r 0 ≡ 63) × (slice_index r 1 ≡ 120))
 
 -- the first n bytes of r are a spelling of the kind, of which a run of digits may have any length
 abbrev pub Spelling : Kind → List ℕ → ℕ → Type 0
@@ -43,7 +43,7 @@ Spelling kinds.Word r n = (1 ≤ n) × (in_class classes.WordStart (slice_index 
 Spelling kinds.Number r n = (1 ≤ n) × Run classes.Digit r 0 n
 Spelling kinds.DimX r n = Sized r n
 Spelling kinds.ScalX r n = (e : ℕ) × (n ≡ e + 2) × (2 ≤ e) × (slice_index r 0 ≡ 91) × Run classes.Digit r 1 e
-  × (slice_index r e ≡ 93) × (slice_index r (e + 1) ≡ 120)
+    × (slice_index r e ≡ 93) × (slice_index r (e + 1) ≡ 120)
 Spelling kinds.ValId r n = Named 37 r n
 Spelling kinds.SymId r n = Named 64 r n
 Spelling kinds.HashId r n = Named 35 r n
@@ -80,7 +80,7 @@ IsBlank c = (c ≡ 32) ⊎ (c ≡ 9) ⊎ (c ≡ 13) ⊎ (c ≡ 10)
 -- the first n bytes of r are `//` and what stands up to LF or the end
 abbrev pub IsComment : List ℕ → ℕ → Type 0
 IsComment r n = (2 ≤ n) × (slice_index r 0 ≡ 47) × (slice_index r 1 ≡ 47) × Run classes.Comment r 2 n
-  × (n < length r → slice_index r n ≡ 10)
+    × (n < length r → slice_index r n ≡ 10)
 
 -- the text r begins with a blank or a comment, of n bytes
 pub record Separates (r : List ℕ) (n : ℕ) : Type 0 where

@@ -18,7 +18,7 @@ Next r (LongNumber n) = LongAt r n
 -- what begins with the byte c is of the shorter kind, alone, or of the longer, with the byte `second`
 pub record Pair (c second : ℕ) (shorter longer : Kind) : Type 0 where
   pub which : (r : List ℕ) (o : Kind) (n : ℕ) → slice_index r 0 ≡ c → Spells o r n
-    → ((o ≡ shorter) × (n ≡ 1)) ⊎ ((o ≡ longer) × (n ≡ 2) × (slice_index r 1 ≡ second))
+      → ((o ≡ shorter) × (n ≡ 1)) ⊎ ((o ≡ longer) × (n ≡ 2) × (slice_index r 1 ≡ second))
   pub short_spelled : (r : List ℕ) → 1 ≤ length r → slice_index r 0 ≡ c → Spells shorter r 1
   pub long_spelled : (r : List ℕ) → 2 ≤ length r → slice_index r 0 ≡ c → slice_index r 1 ≡ second → Spells longer r 2
   pub short_short : IsShort shorter 1

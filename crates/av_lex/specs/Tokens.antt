@@ -1,4 +1,4 @@
-use Rattle.std.specs.Prelude.{ℕ, ◌+◌, ◌≡◌, ◌≤◌, List, [], ◌∷◌, ◌++◌, length, take, drop}
+use Rattle.std.specs.Prelude.{ℕ, ◌+◌, ◌≡◌, ◌≤◌, ◌⊎◌, List, [], ◌∷◌, ◌++◌, length, take, drop, Result, Ok, Err}
 use Rattle.av_lex.specs.declared.token.Kind.{Kind}
 use Rattle.av_lex.specs.declared.token.Token.{Token}
 use Rattle.av_lex.specs.declared.token.LexFault.{LexFault}
@@ -10,7 +10,7 @@ pub data Lexed (b : List ℕ) : List Token → ℕ → Type 0 where
   start : Lexed b [] 0
   separator : {ts : List Token} {p : ℕ} (n : ℕ) → Lexed b ts p → Separates (drop p b) n → Lexed b ts (p + n)
   token : {ts : List Token} {p : ℕ} (k : Kind) (n : ℕ) → Lexed b ts p → Longest k (drop p b) n → IsShort k n
-    → Lexed b (ts ++ record { kind = k; place = p; length = n } ∷ []) (p + n)
+      → Lexed b (ts ++ record { kind = k; place = p; length = n } ∷ []) (p + n)
 
 -- the tokens of the text b
 abbrev pub Tokens : List ℕ → List Token → Type 0
@@ -44,3 +44,18 @@ pub record LongAt (r : List ℕ) (n : ℕ) : Type 0 where
 pub data FaultOf (b : List ℕ) : LexFault → Type 0 where
   bad : {ts : List Token} {p : ℕ} (n : ℕ) → Lexed b ts p → p + 1 ≤ length b → BadAt (drop p b) n → FaultOf b (BadByte (p + n))
   long : {ts : List Token} {p : ℕ} (n : ℕ) → Lexed b ts p → p + 1 ≤ length b → LongAt (drop p b) n → FaultOf b (LongNumber (p + n))
+
+-- an answer is the tokens of the text b, or its first fault, or want of memory
+abbrev pub LexesTo : List ℕ → Result (List Token) LexFault → Type 0
+LexesTo b (Ok ts) = Tokens b ts
+LexesTo b (Err NoMemory) = Unit {0}
+LexesTo b (Err (BadByte p)) = FaultOf b (BadByte p)
+LexesTo b (Err (LongNumber p)) = FaultOf b (LongNumber p)
+
+-- tokens of the text b are those of the answer, want of memory aside
+abbrev pub OnlyTokens : List ℕ → Result (List Token) LexFault → Type 0
+OnlyTokens b result = (ts : List Token) → Tokens b ts → (result ≡ Ok ts) ⊎ (result ≡ Err NoMemory)
+
+-- a first fault of the text b is that of the answer, want of memory aside
+abbrev pub OnlyFault : List ℕ → Result (List Token) LexFault → Type 0
+OnlyFault b result = (f : LexFault) → FaultOf b f → (result ≡ Err f) ⊎ (result ≡ Err NoMemory)

@@ -30,10 +30,18 @@ pub fn is_of(class: Class, byte: u8) -> bool
         Class::WordStart => byte.is_ascii_alphabetic() || byte == b'_',
         Class::Word => byte.is_ascii_alphanumeric() || byte == b'_' || byte == b'$' || byte == b'.',
         Class::NameStart => {
-            byte.is_ascii_alphabetic() || byte == b'_' || byte == b'$' || byte == b'.' || byte == b'-'
+            byte.is_ascii_alphabetic()
+                || byte == b'_'
+                || byte == b'$'
+                || byte == b'.'
+                || byte == b'-'
         }
         Class::Name => {
-            byte.is_ascii_alphanumeric() || byte == b'_' || byte == b'$' || byte == b'.' || byte == b'-'
+            byte.is_ascii_alphanumeric()
+                || byte == b'_'
+                || byte == b'$'
+                || byte == b'.'
+                || byte == b'-'
         }
         Class::Quoted => byte >= 0x20 && byte <= 0x7E && byte != b'"' && byte != b'\\',
         Class::Comment => byte != b'\n',

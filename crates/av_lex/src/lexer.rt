@@ -1,4 +1,5 @@
 ghost use Rattle.std.specs.Prelude.{◌≡◌, ◌+◌, ◌^◌, ◌<◌, ◌≤◌, length};
+ghost use Rattle.av_lex.specs.Tokens.{LexesTo, OnlyTokens, OnlyFault};
 
 use crate::step::{Step, first_step};
 use crate::token::{LexFault, Token};
@@ -13,6 +14,18 @@ use std::alloc::Global;
 /// number of more than 38 digits, whichever is first in the text; `NoMemory` where memory lacks.
 pub fn lex(alloc: Global, bytes: &[u8]) -> Result<Seq<Token>, LexFault>
     requires { length bytes.now < 2 ^ 32 }
+    ensures found { LexesTo bytes.now result }
+    // A text has one list of tokens or one first fault, and it is the answer.
+    ensures only_tokens { OnlyTokens bytes.now result }
+    ensures only_fault { OnlyFault bytes.now result }
+{
+    scan(alloc, bytes)
+}
+
+// The tokens one after another, or the first fault.
+fn scan(alloc: Global, bytes: &[u8]) -> Result<Seq<Token>, LexFault>
+    requires { length bytes.now < 2 ^ 32 }
+    ensures { LexesTo bytes.now result }
 {
     let mut tokens = Seq::new(alloc);
     let mut at: usize = 0;

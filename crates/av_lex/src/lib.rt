@@ -11,3 +11,6 @@ mod token;
 
 pub use lexer::lex;
 pub use token::{Kind, LexFault, Sign, Token};
+
+#[cfg(test)]
+mod tests;

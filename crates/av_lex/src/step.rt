@@ -44,8 +44,18 @@ pub fn first_step(rest: &[u8]) -> Step
         b'[' => bracket(rest),
         b'?' => pair(rest, Kind::Sign(Sign::Question), b'x', Kind::DimX),
         b'-' => pair(rest, Kind::Sign(Sign::Minus), b'>', Kind::Sign(Sign::Arrow)),
-        b'>' => pair(rest, Kind::Sign(Sign::CloseAngle), b'=', Kind::Sign(Sign::AtLeast)),
-        b'=' => pair(rest, Kind::Sign(Sign::Equal), b'=', Kind::Sign(Sign::EqualEqual)),
+        b'>' => pair(
+            rest,
+            Kind::Sign(Sign::CloseAngle),
+            b'=',
+            Kind::Sign(Sign::AtLeast),
+        ),
+        b'=' => pair(
+            rest,
+            Kind::Sign(Sign::Equal),
+            b'=',
+            Kind::Sign(Sign::EqualEqual),
+        ),
         _ => single(rest),
     }
 }

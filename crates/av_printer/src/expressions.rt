@@ -20,42 +20,72 @@ pub(crate) fn print_expression(
             out.push_bytes(b"-")?;
             print_side(out, part.get(), !is_name(part.get()), leaves)
         }
-        ExprText::Add(left, right) => print_sum(out, left.get(), b" + ", right.get(), leaves),
-        ExprText::Sub(left, right) => print_sum(out, left.get(), b" - ", right.get(), leaves),
-        ExprText::Mul(left, right) => print_product(out, left.get(), b" * ", right.get(), leaves),
-        ExprText::Mod(left, right) => print_product(out, left.get(), b" mod ", right.get(), leaves),
+        ExprText::Add(left, right) => {
+            print_left_of_sum(out, left.get(), b" + ", leaves)?;
+            print_right_of_sum(out, right.get(), leaves)
+        }
+        ExprText::Sub(left, right) => {
+            print_left_of_sum(out, left.get(), b" - ", leaves)?;
+            print_right_of_sum(out, right.get(), leaves)
+        }
+        ExprText::Mul(left, right) => {
+            print_left_of_product(out, left.get(), b" * ", leaves)?;
+            print_right_of_product(out, right.get(), leaves)
+        }
+        ExprText::Mod(left, right) => {
+            print_left_of_product(out, left.get(), b" mod ", leaves)?;
+            print_right_of_product(out, right.get(), leaves)
+        }
         ExprText::Floor(left, right) => {
-            print_product(out, left.get(), b" floordiv ", right.get(), leaves)
+            print_left_of_product(out, left.get(), b" floordiv ", leaves)?;
+            print_right_of_product(out, right.get(), leaves)
         }
         ExprText::Ceil(left, right) => {
-            print_product(out, left.get(), b" ceildiv ", right.get(), leaves)
+            print_left_of_product(out, left.get(), b" ceildiv ", leaves)?;
+            print_right_of_product(out, right.get(), leaves)
         }
     }
 }
 
+// The left side of a sum or difference, and the sign.
 #[cycle(spelling)]
-fn print_sum(
+fn print_left_of_sum(
     out: &mut Writer,
     left: &ExprText,
     sign: &[u8],
-    right: &ExprText,
     leaves: &Leaves,
 ) -> Result<(), AllocError> {
     print_side(out, left, false, leaves)?;
-    out.push_bytes(sign)?;
-    print_side(out, right, is_sum(right), leaves)
+    out.push_bytes(sign)
 }
 
 #[cycle(spelling)]
-fn print_product(
+fn print_right_of_sum(
     out: &mut Writer,
-    left: &ExprText,
-    sign: &[u8],
     right: &ExprText,
     leaves: &Leaves,
 ) -> Result<(), AllocError> {
+    print_side(out, right, is_sum(right), leaves)
+}
+
+// The left side of a product or division, and the sign or word.
+#[cycle(spelling)]
+fn print_left_of_product(
+    out: &mut Writer,
+    left: &ExprText,
+    sign: &[u8],
+    leaves: &Leaves,
+) -> Result<(), AllocError> {
     print_side(out, left, is_sum(left), leaves)?;
-    out.push_bytes(sign)?;
+    out.push_bytes(sign)
+}
+
+#[cycle(spelling)]
+fn print_right_of_product(
+    out: &mut Writer,
+    right: &ExprText,
+    leaves: &Leaves,
+) -> Result<(), AllocError> {
     print_side(out, right, is_binary(right), leaves)
 }
 

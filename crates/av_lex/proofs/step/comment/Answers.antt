@@ -13,5 +13,6 @@ returns-else-rest-gt1 c = bad_slash _ c.requires.first alone
   where
     alone : 1 < length c.args.rest.now → slice_index c.args.rest.now 1 ≡ 47 → ⊥
     alone inside slash = elim c.else-rest-gt1.branch [
-        else-rest-gt1-via-then-rest-gt1+else-rest-eq47 w ↦ w.if-rest-eq47.false slash
-      | else-rest-gt1-via-else-rest-gt1 w ↦ absurd (omega (arith, w.if-rest-gt1.false)) ]
+      | else-rest-gt1-via-then-rest-gt1+else-rest-eq47 w ↦ w.if-rest-eq47.false slash
+      | else-rest-gt1-via-else-rest-gt1 w ↦ absurd (omega (arith, w.if-rest-gt1.false))
+    ]

@@ -14,5 +14,6 @@ returns-else-end-rest c =
   where
     unclosed : c.run_end-end.result < length c.args.rest.now → slice_index c.args.rest.now c.run_end-end.result ≡ 34 → ⊥
     unclosed inside close = elim c.else-end-rest.branch [
-        else-end-rest-via-then-end-rest+else-rest-end-eq34 w ↦ w.if-rest-end-eq34.false close
-      | else-end-rest-via-else-end-rest w ↦ absurd (omega (arith, w.if-end-rest.false)) ]
+      | else-end-rest-via-then-end-rest+else-rest-end-eq34 w ↦ w.if-rest-end-eq34.false close
+      | else-end-rest-via-else-end-rest w ↦ absurd (omega (arith, w.if-end-rest.false))
+    ]
