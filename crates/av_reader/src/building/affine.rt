@@ -100,69 +100,74 @@ fn carried(stack: &mut Stack) -> Result<(), Fault> {
 
 fn affine_for(stack: &mut Stack, place: u32) -> Result<(), Fault> {
     let alloc = stack.alloc();
-    let variable = stack.text()?;
-    let lower = stack.map_use()?;
-    let upper = stack.map_use()?;
-    let step = stack.number()?;
-    let carried = stack.carried()?;
-    let nodes = with_terminator(alloc, in_order(stack.nodes()?))?;
     let mut node = plain_node(alloc, text_of(alloc, b"affine.for")?, place);
-    node.attrs = in_order(stack.entries()?);
-    node.properties = loop_properties(alloc, &lower, &upper, &carried, step)?;
-    node.properties
-        .push(named(alloc, b"lowerBoundMap", lower.map)?)?;
-    node.properties
-        .push(named(alloc, b"upperBoundMap", upper.map)?)?;
     let mut args = Seq::new(alloc);
-    args.push(BodyArg {
-        name: variable,
-        ty: TypeText::Scalar(text_of(alloc, b"index")?),
-    })?;
-    bound_operands(&mut node, lower.operands)?;
-    bound_operands(&mut node, upper.operands)?;
-    carry(alloc, &mut node, &mut args, carried)?;
+    args.push(loop_variable(alloc, stack.text()?)?)?;
+    let lower = bound(alloc, &mut node, b"lowerBoundMap", stack.map_use()?)?;
+    let upper = bound(alloc, &mut node, b"upperBoundMap", stack.map_use()?)?;
+    push_property(alloc, &mut node, b"step", step_of(alloc, stack.number()?)?)?;
+    let carried = carry(alloc, &mut node, &mut args, stack.carried()?)?;
+    let sizes = segment_sizes(alloc, lower, upper, carried)?;
+    push_property(alloc, &mut node, b"operandSegmentSizes", sizes)?;
+    node.attrs = in_order(stack.entries()?);
+    let nodes = with_terminator(alloc, in_order(stack.nodes()?))?;
     node.regions.push(Body { args, nodes })?;
     push_node(stack, node)
 }
 
-// The step and the numbers of operands.
-fn loop_properties(
-    alloc: Global,
-    lower: &MapUse,
-    upper: &MapUse,
-    carried: &Carried,
-    step: i128,
-) -> Result<Seq<Named>, Fault> {
+fn loop_variable(alloc: Global, name: Text) -> Result<BodyArg, Fault> {
+    Ok(BodyArg {
+        ty: TypeText::Scalar(text_of(alloc, b"index")?),
+        name,
+    })
+}
+
+fn step_of(alloc: Global, value: i128) -> Result<Attr, Fault> {
+    Ok(Attr::Number {
+        ty: TypeText::Scalar(text_of(alloc, b"index")?),
+        value,
+    })
+}
+
+// How many operands the bounds have, and how many values are carried.
+fn segment_sizes(alloc: Global, lower: usize, upper: usize, carried: usize) -> Result<Attr, Fault> {
     let mut numbers = Seq::new(alloc);
-    numbers.push(count(lower.operands.len()))?;
-    numbers.push(count(upper.operands.len()))?;
-    numbers.push(count(carried.pairs.len()))?;
-    let sizes = Attr::Array {
+    numbers.push(count(lower))?;
+    numbers.push(count(upper))?;
+    numbers.push(count(carried))?;
+    Ok(Attr::Array {
         elem: TypeText::Scalar(text_of(alloc, b"i32")?),
         numbers,
-    };
-    let step = Attr::Number {
-        value: step,
-        ty: TypeText::Scalar(text_of(alloc, b"index")?),
-    };
-    let mut properties = Seq::new(alloc);
-    properties.push(named(alloc, b"operandSegmentSizes", sizes)?)?;
-    properties.push(named(alloc, b"step", step)?)?;
-    Ok(properties)
+    })
 }
 
 fn count(n: usize) -> i128 {
     i128::try_from(n).unwrap_or(i128::MAX)
 }
 
-fn named(alloc: Global, name: &[u8], value: Attr) -> Result<Named, Fault> {
-    Ok(Named {
-        name: text_of(alloc, name)?,
-        value,
-    })
+/// Gives a node one more property.
+pub(super) fn push_property(
+    alloc: Global,
+    node: &mut Node,
+    name: &[u8],
+    value: Attr,
+) -> Result<(), Fault> {
+    let name = text_of(alloc, name)?;
+    node.properties.push(Named { name, value })?;
+    Ok(())
 }
 
-fn bound_operands(node: &mut Node, operands: Vec<Text>) -> Result<(), Fault> {
+// The map and the operands of a bound, whose number it gives.
+fn bound(alloc: Global, node: &mut Node, name: &[u8], map_use: MapUse) -> Result<usize, Fault> {
+    let MapUse { map, operands } = map_use;
+    let number = operands.len();
+    push_operands(node, operands)?;
+    push_property(alloc, node, name, map)?;
+    Ok(number)
+}
+
+// Operands whose types aren't written.
+fn push_operands(node: &mut Node, operands: Vec<Text>) -> Result<(), Fault> {
     for operand in operands {
         node.operands.push(operand)?;
         node.in_types.push(None)?;
@@ -170,25 +175,24 @@ fn bound_operands(node: &mut Node, operands: Vec<Text>) -> Result<(), Fault> {
     Ok(())
 }
 
-// The initial values, the carried arguments and the types of the results.
+// The initial values, the carried arguments and the types of the results; it gives the number of
+// carried values.
 fn carry(
     alloc: Global,
     node: &mut Node,
     args: &mut Seq<BodyArg>,
     carried: Carried,
-) -> Result<(), Fault> {
+) -> Result<usize, Fault> {
     let Carried { mut pairs, types } = carried;
+    let number = types.len();
     for ty in types {
-        let pair = pairs.pop().ok_or(Fault::Misshapen)?;
-        node.operands.push(pair.init)?;
+        let CarriedPair { name, init } = pairs.pop().ok_or(Fault::Misshapen)?;
+        node.operands.push(init)?;
         node.in_types.push(Some(ty.duplicate(alloc)?))?;
         node.out_types.push(Some(ty.duplicate(alloc)?))?;
-        args.push(BodyArg {
-            name: pair.name,
-            ty,
-        })?;
+        args.push(BodyArg { name, ty })?;
     }
-    Ok(())
+    Ok(number)
 }
 
 // The operations of a loop, with its terminator where it is left out.
@@ -239,10 +243,6 @@ fn access(stack: &mut Stack, node: &mut Node, buffer: Text) -> Result<(), Fault>
     node.operands.push(buffer)?;
     node.in_types.push(Some(ty))?;
     let Numbering { map, operands } = place_map(alloc, subscripts)?;
-    for operand in operands {
-        node.operands.push(operand)?;
-        node.in_types.push(None)?;
-    }
-    node.properties.push(named(alloc, b"map", Attr::Map(map))?)?;
-    Ok(())
+    push_operands(node, operands)?;
+    push_property(alloc, node, b"map", Attr::Map(map))
 }

@@ -1,5 +1,6 @@
 //! Rows of operations in regions, and of operations of the Arith dialect.
 
+use super::affine::push_property;
 use super::files::{node_before, only_node, push_node, with_results};
 use super::stack::{Fault, Stack, before, in_order, text_of};
 use super::value::{Terminated, TypedValues, Value};
@@ -113,18 +114,18 @@ pub(super) fn reduce_arith(stack: &mut Stack, rule: ArithRule, place: u32) -> Re
 
 fn constant(stack: &mut Stack, place: u32) -> Result<(), Fault> {
     let alloc = stack.alloc();
-    let value = stack.attr()?;
-    let ty = match &value {
-        Attr::Number { ty, .. } => ty.duplicate(alloc)?,
-        _ => return Err(Fault::Misshapen),
-    };
     let mut node = plain_node(alloc, text_of(alloc, b"arith.constant")?, place);
-    node.properties.push(Named {
-        name: text_of(alloc, b"value")?,
-        value,
-    })?;
-    node.out_types.push(Some(ty))?;
+    let value = stack.attr()?;
+    node.out_types.push(Some(type_of_number(alloc, &value)?))?;
+    push_property(alloc, &mut node, b"value", value)?;
     push_node(stack, node)
+}
+
+fn type_of_number(alloc: Global, number: &Attr) -> Result<TypeText, Fault> {
+    match number {
+        Attr::Number { ty, .. } => Ok(ty.duplicate(alloc)?),
+        _ => Err(Fault::Misshapen),
+    }
 }
 
 fn overflowing(stack: &mut Stack, place: u32) -> Result<(), Fault> {
