@@ -17,19 +17,10 @@ use std::alloc::Global;
 /// The greatest number of results of a map.
 pub(crate) const MAX_RESULTS: usize = 8;
 
-// What an access needs to know of its buffer's type.
-#[derive(Clone, Copy)]
-struct BufferType {
-    rank: usize,
-    elem: Elem,
-}
-
-fn buffer_type(scope: &Scope, buffer: ValueId) -> Option<BufferType> {
+// The rank and the element type of a buffer.
+fn buffer_type(scope: &Scope, buffer: ValueId) -> Option<(usize, Elem)> {
     match scope.ty(buffer)? {
-        Ty::MemRef { sizes, elem } => Some(BufferType {
-            rank: sizes.len(),
-            elem: *elem,
-        }),
+        Ty::MemRef { sizes, elem } => Some((sizes.len(), *elem)),
         _ => None,
     }
 }
@@ -40,28 +31,28 @@ pub(crate) fn load(scope: &mut Scope, node: &Node, number: No) -> Result<Op, Ver
     ask(has_results(node, 1), number, Code::Results)?;
     let values = scope.operands(node, number)?;
     let name = new_result(scope, node, number)?;
-    let buffer = load_type(scope, node, values.as_slice()).ok_or(bad(number, Code::Types))?;
+    let (rank, elem) = load_type(scope, node, values.as_slice()).ok_or(bad(number, Code::Types))?;
     let subscripts = values.as_slice().get(1..).unwrap_or(&[]);
-    let map = access_map(scope, Row::Load, node, subscripts, buffer.rank, number)?;
+    let map = access_map(scope, Row::Load, node, subscripts, rank, number)?;
     let MapUse { map, operands } = normalised(scope.alloc(), map, subscripts, number)?;
     let operands = after(scope.alloc(), &values, 1, operands)?;
-    let result = scope.define(name, Ty::Scalar(buffer.elem))?;
+    let result = scope.define(name, Ty::Scalar(elem))?;
     let kind = OpKind::AffineLoad(map);
     let mut op = op_with_result(scope.alloc(), number, kind, operands, result)?;
     op.marks = marks_of(Row::Load, node);
     Ok(op)
 }
 
-fn load_type(scope: &Scope, node: &Node, operands: &[ValueId]) -> Option<BufferType> {
+fn load_type(scope: &Scope, node: &Node, operands: &[ValueId]) -> Option<(usize, Elem)> {
     let [buffer, ..] = operands else {
         return None;
     };
-    let ty = buffer_type(scope, *buffer)?;
+    let (rank, elem) = buffer_type(scope, *buffer)?;
     let written = match node.out_types.as_slice() {
-        [written] => agrees(written, &Ty::Scalar(ty.elem)),
+        [written] => agrees(written, &Ty::Scalar(elem)),
         _ => false,
     };
-    if written && scope.agrees_on_operands(node, operands) { Some(ty) } else { None }
+    if written && scope.agrees_on_operands(node, operands) { Some((rank, elem)) } else { None }
 }
 
 /// A store: its operands are the value, the buffer and the values in the subscripts.
@@ -69,9 +60,9 @@ pub(crate) fn store(scope: &mut Scope, node: &Node, number: No) -> Result<Op, Ve
     ask(node.operands.len() >= 2, number, Code::Operands)?;
     ask(has_results(node, 0), number, Code::Results)?;
     let values = scope.operands(node, number)?;
-    let buffer = store_type(scope, node, values.as_slice()).ok_or(bad(number, Code::Types))?;
+    let (rank, _) = store_type(scope, node, values.as_slice()).ok_or(bad(number, Code::Types))?;
     let subscripts = values.as_slice().get(2..).unwrap_or(&[]);
-    let map = access_map(scope, Row::Store, node, subscripts, buffer.rank, number)?;
+    let map = access_map(scope, Row::Store, node, subscripts, rank, number)?;
     let MapUse { map, operands } = normalised(scope.alloc(), map, subscripts, number)?;
     let operands = after(scope.alloc(), &values, 2, operands)?;
     let mut op = plain_op(scope.alloc(), number, OpKind::AffineStore(map), operands);
@@ -79,14 +70,14 @@ pub(crate) fn store(scope: &mut Scope, node: &Node, number: No) -> Result<Op, Ve
     Ok(op)
 }
 
-fn store_type(scope: &Scope, node: &Node, operands: &[ValueId]) -> Option<BufferType> {
+fn store_type(scope: &Scope, node: &Node, operands: &[ValueId]) -> Option<(usize, Elem)> {
     let [value, buffer, ..] = operands else {
         return None;
     };
-    let ty = buffer_type(scope, *buffer)?;
+    let (rank, elem) = buffer_type(scope, *buffer)?;
     let stored = scalar_of(scope.ty(*value)?)?;
-    let agreed = stored == ty.elem && node.out_types.is_empty();
-    if agreed && scope.agrees_on_operands(node, operands) { Some(ty) } else { None }
+    let agreed = stored == elem && node.out_types.is_empty();
+    if agreed && scope.agrees_on_operands(node, operands) { Some((rank, elem)) } else { None }
 }
 
 // The map of an access to a buffer of this rank, after all rules from that of properties on.

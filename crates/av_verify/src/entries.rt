@@ -8,14 +8,12 @@ use av_tree::{Attr, MapText, Named, Node, TypeText};
 
 /// The value of an operation's entry of this name, if it has one.
 pub(crate) fn entry<'t>(node: &'t Node, name: &[u8]) -> Option<&'t Attr> {
-    match entry_among(node.properties.as_slice(), name) {
-        Some(value) => Some(value),
-        None => entry_among(node.attrs.as_slice(), name),
+    for entry in node.properties.as_slice() {
+        if entry.name.as_slice() == name {
+            return Some(&entry.value);
+        }
     }
-}
-
-fn entry_among<'t>(entries: &'t [Named], name: &[u8]) -> Option<&'t Attr> {
-    for entry in entries {
+    for entry in node.attrs.as_slice() {
         if entry.name.as_slice() == name {
             return Some(&entry.value);
         }
@@ -59,69 +57,74 @@ pub(crate) fn mark_number(value: &Attr) -> Option<No> {
 /// Asks an operation's entries: the needed ones are there, and each is known, in its form and alone.
 pub(crate) fn ask_entries(row: Row, node: &Node, number: No) -> Result<(), VerifyRefusal> {
     let needed = properties_of(row);
-    ask(needed.iter().all(|name| times(node, name) >= 1), number, Code::Needed)?;
-    ask(
-        needed.iter().all(|name| times(node, name) == 1) && has_known_entries(row, node),
-        number,
-        Code::Property,
-    )
+    for name in needed {
+        ask(entry(node, name).is_some(), number, Code::Needed)?;
+    }
+    for name in needed {
+        ask(times(node, name) == 1, number, Code::Property)?;
+    }
+    let known = are_known(row, node.properties.as_slice()) && are_known(row, node.attrs.as_slice());
+    ask(known && has_good_mark(row, node), number, Code::Property)
 }
 
 // How many entries of an operation have this name.
 fn times(node: &Node, name: &[u8]) -> usize {
-    times_among(node.properties.as_slice(), name)
-        .saturating_add(times_among(node.attrs.as_slice(), name))
+    let mut times: usize = 0;
+    for entry in node.properties.as_slice() {
+        if entry.name.as_slice() == name {
+            times = times.saturating_add(1);
+        }
+    }
+    for entry in node.attrs.as_slice() {
+        if entry.name.as_slice() == name {
+            times = times.saturating_add(1);
+        }
+    }
+    times
 }
 
-fn times_among(entries: &[Named], name: &[u8]) -> usize {
-    entries
-        .iter()
-        .filter(|entry| entry.name.as_slice() == name)
-        .count()
+// Whether each entry is a property, a mark, or an attribute that is dropped: these two have a dot.
+fn are_known(row: Row, entries: &[Named]) -> bool {
+    for entry in entries {
+        let name = entry.name.as_slice();
+        if !is_property(row, name) && !name.contains(&b'.') {
+            return false;
+        }
+    }
+    true
 }
 
-fn has_known_entries(row: Row, node: &Node) -> bool {
-    has_good_mark(row, node)
-        && are_known(row, node.properties.as_slice())
-        && are_known(row, node.attrs.as_slice())
+fn is_property(row: Row, name: &[u8]) -> bool {
+    for property in properties_of(row) {
+        if *property == name {
+            return true;
+        }
+    }
+    false
 }
 
 // The operation's mark, if it stands, stands once and with a number.
 fn has_good_mark(row: Row, node: &Node) -> bool {
-    match mark_of(row) {
-        Some(mark) => match entry(node, mark) {
-            Some(value) => mark_number(value).is_some() && times(node, mark) == 1,
-            None => true,
-        },
+    let mark = mark_of(row);
+    match entry(node, mark) {
+        Some(value) => mark_number(value).is_some() && times(node, mark) == 1,
         None => true,
     }
 }
 
-// Names with a dot are those of marks, and of attributes that are dropped.
-fn are_known(row: Row, entries: &[Named]) -> bool {
-    let known = properties_of(row);
-    entries.iter().all(|entry| {
-        let name = entry.name.as_slice();
-        known.iter().any(|one| *one == name) || name.contains(&b'.')
-    })
-}
-
 /// The marks of an operation.
 pub(crate) fn marks_of(row: Row, node: &Node) -> Marks {
-    let number = match mark_of(row) {
-        Some(mark) => entry(node, mark).and_then(mark_number),
+    let number = match entry(node, mark_of(row)) {
+        Some(value) => mark_number(value),
         None => None,
     };
-    match row {
-        Row::Loop => Marks {
-            loop_no: number,
-            source: None,
-            distinct: false,
-        },
-        _ => Marks {
-            loop_no: None,
-            source: number,
-            distinct: false,
-        },
+    let (loop_no, source) = match row {
+        Row::Loop => (number, None),
+        _ => (None, number),
+    };
+    Marks {
+        loop_no,
+        source,
+        distinct: false,
     }
 }

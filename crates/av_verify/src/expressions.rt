@@ -14,13 +14,13 @@ const PARAMETER_BOUND: u128 = 0x8000_0000_0000_0000;
 
 /// Whether the parameters of a map differ, and its results are affine and within their limits.
 pub(crate) fn is_affine_map(map: &MapText) -> bool {
+    for expr in map.results.as_slice() {
+        if nodes(expr) > MAX_NODES || bound(map, expr).is_none() {
+            return false;
+        }
+    }
     has_own_names(map.dims.as_slice(), map.syms.as_slice())
         && has_own_names(map.syms.as_slice(), &[])
-        && map
-            .results
-            .as_slice()
-            .iter()
-            .all(|expr| is_affine(map, expr))
 }
 
 // Whether the names differ from each other and from others.
@@ -37,11 +37,12 @@ fn has_own_names(names: &[Text], others: &[Text]) -> bool {
 
 /// The first place of a name among names.
 pub(crate) fn place_of(names: &[Text], name: &[u8]) -> Option<usize> {
-    names.iter().position(|one| one.as_slice() == name)
-}
-
-fn is_affine(map: &MapText, expr: &ExprText) -> bool {
-    nodes(expr) <= MAX_NODES && bound(map, expr).is_some()
+    for (at, one) in names.iter().enumerate() {
+        if one.as_slice() == name {
+            return Some(at);
+        }
+    }
+    None
 }
 
 fn nodes(expr: &ExprText) -> u64 {

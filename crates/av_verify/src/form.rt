@@ -44,8 +44,7 @@ fn is_plain_function(node: &Node) -> bool {
         && gives_nothing(node)
         && match node.regions.as_slice() {
             [body] => {
-                body.args.as_slice().iter().all(is_plain_buffer)
-                    && is_function_body(body.nodes.as_slice())
+                are_plain_buffers(body.args.as_slice()) && is_function_body(body.nodes.as_slice())
             }
             _ => false,
         }
@@ -58,31 +57,37 @@ fn gives_nothing(node: &Node) -> bool {
     }
 }
 
-// Whether an argument is of type `memref<Nxi32>`.
-fn is_plain_buffer(arg: &BodyArg) -> bool {
-    match &arg.ty {
-        TypeText::MemRef {
-            sizes,
-            elem,
-            layout: None,
-        } => {
-            matches!(sizes.as_slice(), [SizeText::Fixed(_)])
-                && elem.as_slice() == b"i32".as_slice()
+// Whether all arguments are of types `memref<Nxi32>`.
+fn are_plain_buffers(args: &[BodyArg]) -> bool {
+    for arg in args {
+        let plain = match &arg.ty {
+            TypeText::MemRef {
+                sizes,
+                elem,
+                layout: None,
+            } => {
+                matches!(sizes.as_slice(), [SizeText::Fixed(_)])
+                    && elem.as_slice() == b"i32".as_slice()
+            }
+            _ => false,
+        };
+        if !plain {
+            return false;
         }
-        _ => false,
     }
+    true
 }
 
 fn is_function_body(nodes: &[Node]) -> bool {
-    match nodes {
-        [inner @ .., last] => {
-            is_end(last, b"func.return")
-                && inner
-                    .iter()
-                    .all(|node| is_plain_constant(node) || is_plain_loop(node))
+    let [inner @ .., last] = nodes else {
+        return false;
+    };
+    for node in inner {
+        if !is_plain_constant(node) && !is_plain_loop(node) {
+            return false;
         }
-        [] => false,
     }
+    is_end(last, b"func.return")
 }
 
 // Whether an operation ends a region without giving values.
@@ -132,20 +137,24 @@ fn has_constant_bound(node: &Node, name: &[u8]) -> bool {
 
 // Whether all attributes are marks of the operation with a number.
 fn has_only_marks(node: &Node, row: Row) -> bool {
-    let mark = mark_of(row).unwrap_or(&[]);
-    node.attrs
-        .as_slice()
-        .iter()
-        .all(|entry| entry.name.as_slice() == mark && mark_number(&entry.value).is_some())
+    for entry in node.attrs.as_slice() {
+        if entry.name.as_slice() != mark_of(row) || mark_number(&entry.value).is_none() {
+            return false;
+        }
+    }
+    true
 }
 
 fn is_loop_body(nodes: &[Node], variable: &[u8]) -> bool {
-    match nodes {
-        [inner @ .., last] => {
-            is_end(last, b"affine.yield") && inner.iter().all(|node| is_in_loop(node, variable))
+    let [inner @ .., last] = nodes else {
+        return false;
+    };
+    for node in inner {
+        if !is_in_loop(node, variable) {
+            return false;
         }
-        [] => false,
     }
+    is_end(last, b"affine.yield")
 }
 
 fn is_in_loop(node: &Node, variable: &[u8]) -> bool {

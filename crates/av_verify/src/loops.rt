@@ -50,13 +50,14 @@ pub(crate) fn loop_header(scope: &mut Scope, node: &Node, number: No) -> Result<
 }
 
 fn has_loop_types(node: &Node) -> bool {
+    for body in node.regions.as_slice() {
+        for arg in body.args.as_slice() {
+            if written_scalar(&arg.ty) != Some(Elem::Index) {
+                return false;
+            }
+        }
+    }
     node.out_types.is_empty()
-        && node.regions.as_slice().iter().all(|body| {
-            body.args
-                .as_slice()
-                .iter()
-                .all(|arg| written_scalar(&arg.ty) == Some(Elem::Index))
-        })
 }
 
 fn has_one_variable(node: &Node) -> bool {
@@ -68,14 +69,16 @@ fn has_one_variable(node: &Node) -> bool {
 
 /// Whether each region of an operation ends with an operation of this name.
 pub(crate) fn ends_with(node: &Node, name: &[u8]) -> bool {
-    node.regions.as_slice().iter().all(|body| is_ended(body, name))
-}
-
-fn is_ended(body: &Body, name: &[u8]) -> bool {
-    match body.nodes.as_slice() {
-        [.., last] => last.name.as_slice() == name,
-        [] => false,
+    for body in node.regions.as_slice() {
+        let ended = match body.nodes.as_slice() {
+            [.., last] => last.name.as_slice() == name,
+            [] => false,
+        };
+        if !ended {
+            return false;
+        }
     }
+    true
 }
 
 // The bounds and the step, after the rules on the form and the number of each.
@@ -88,10 +91,12 @@ fn range_of<'t>(
     let upper = map_in(node, b"upperBoundMap").ok_or(bad(number, Code::Property))?;
     let step = number_in(node, b"step").ok_or(bad(number, Code::Property))?;
     let counts = segments(node).ok_or(bad(number, Code::Property))?;
-    let (lowers, uppers) = (arity(lower), arity(upper));
-    let parted = are_segments(counts, lowers, uppers) && lowers.saturating_add(uppers) == values.len();
+    let lowers = arity(lower);
+    let uppers = arity(upper);
+    let parted = counts == [lowers as i128, uppers as i128, 0].as_slice();
+    ask(parted && lowers.saturating_add(uppers) == values.len(), number, Code::Arity)?;
     let bounded = !lower.results.is_empty() && !upper.results.is_empty();
-    ask(parted && bounded, number, Code::Arity)?;
+    ask(bounded, number, Code::Arity)?;
     Ok(Range {
         lower,
         upper,
@@ -101,20 +106,11 @@ fn range_of<'t>(
     })
 }
 
+// The numbers of the operands of both bounds and of the carried values.
 fn segments(node: &Node) -> Option<&[i128]> {
     match entry(node, b"operandSegmentSizes") {
         Some(Attr::Array { numbers, .. }) => Some(numbers.as_slice()),
         _ => None,
-    }
-}
-
-// Whether these are the numbers of the operands of both bounds and of the carried values.
-fn are_segments(counts: &[i128], lowers: usize, uppers: usize) -> bool {
-    match counts {
-        [lower, upper, carried] => {
-            *lower == lowers as i128 && *upper == uppers as i128 && *carried == 0
-        }
-        _ => false,
     }
 }
 

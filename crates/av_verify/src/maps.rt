@@ -3,7 +3,7 @@
 
 use super::expressions::place_of;
 use super::refusal::{Code, VerifyRefusal, bad};
-use super::scope::{Role, Scope};
+use super::scope::Scope;
 use av_affine::{AffMap, Expr, Held, Leaf, No, Seq};
 use av_ir::ValueId;
 use av_tree::{ExprText, MapText};
@@ -16,10 +16,12 @@ pub(crate) fn arity(map: &MapText) -> usize {
 
 /// Whether the operands of a map may be its dimensions; no value is a symbol yet.
 pub(crate) fn are_map_operands(scope: &Scope, map: &MapText, operands: &[ValueId]) -> bool {
-    operands
-        .iter()
-        .enumerate()
-        .all(|(at, value)| at < map.dims.len() && scope.role(*value) == Role::Dimension)
+    for (at, value) in operands.iter().enumerate() {
+        if at >= map.dims.len() || !scope.is_dimension(*value) {
+            return false;
+        }
+    }
+    true
 }
 
 /// A normalised map and the values of its parameters: those of dimensions, then those of symbols.
@@ -114,9 +116,13 @@ fn leaf(renaming: &mut Renaming<'_>, name: &[u8]) -> Result<Leaf, VerifyRefusal>
 
 // The place of a value among those that have occurred, at the end if it is a new one.
 fn number_of(values: &mut Seq<ValueId>, value: ValueId) -> Result<No, AllocError> {
-    if let Some(at) = values.as_slice().iter().position(|one| *one == value) {
-        return Ok(at as No);
+    let mut next: No = 0;
+    for one in values.as_slice() {
+        if one.0 == value.0 {
+            return Ok(next);
+        }
+        next = next.saturating_add(1);
     }
     values.push(value)?;
-    Ok((values.len() as No).saturating_sub(1))
+    Ok(next)
 }

@@ -134,32 +134,40 @@ fn function_header(scope: &mut Scope, node: &Node, number: No) -> Result<Text, V
 }
 
 fn has_function_types(node: &Node) -> bool {
-    node.in_types.is_empty()
-        && node.out_types.is_empty()
-        && node
-            .regions
-            .as_slice()
-            .iter()
-            .all(|body| has_argument_types(node, body.args.as_slice()))
-}
-
-fn has_argument_types(node: &Node, args: &[BodyArg]) -> bool {
-    let agreed = match entry(node, b"function_type") {
-        Some(Attr::Type(TypeText::Func { inputs, .. })) => are_types_of(inputs.as_slice(), args),
-        _ => true,
-    };
-    agreed && args.iter().all(|arg| is_type(&arg.ty))
+    for body in node.regions.as_slice() {
+        let args = body.args.as_slice();
+        for arg in args {
+            if !is_type(&arg.ty) {
+                return false;
+            }
+        }
+        if let Some(Attr::Type(TypeText::Func { inputs, .. })) = entry(node, b"function_type") {
+            if !are_types_of(inputs.as_slice(), args) {
+                return false;
+            }
+        }
+    }
+    node.in_types.is_empty() && node.out_types.is_empty()
 }
 
 fn are_types_of(types: &[TypeText], args: &[BodyArg]) -> bool {
-    types.len() == args.len() && types.iter().zip(args).all(|(ty, arg)| *ty == arg.ty)
+    for (ty, arg) in types.iter().zip(args) {
+        if *ty != arg.ty {
+            return false;
+        }
+    }
+    types.len() == args.len()
 }
 
 fn are_within_limits(node: &Node) -> bool {
-    node.regions
-        .as_slice()
-        .iter()
-        .all(|body| body.args.as_slice().iter().all(|arg| is_within_limits(&arg.ty)))
+    for body in node.regions.as_slice() {
+        for arg in body.args.as_slice() {
+            if !is_within_limits(&arg.ty) {
+                return false;
+            }
+        }
+    }
+    true
 }
 
 // The name of a function, where it is spelled as a symbol without its `@`.
@@ -178,16 +186,16 @@ fn symbol_in(node: &Node) -> Option<&[u8]> {
 
 // Digits alone, or a letter or one of `$._-` followed by any of these and digits.
 fn is_symbol(name: &[u8]) -> bool {
-    match name {
-        [first, rest @ ..] => {
-            if first.is_ascii_digit() {
-                rest.iter().all(|b| b.is_ascii_digit())
-            } else {
-                is_symbol_byte(*first) && rest.iter().all(|b| is_symbol_byte(*b))
-            }
+    let [first, rest @ ..] = name else {
+        return false;
+    };
+    for b in rest {
+        let fits = if first.is_ascii_digit() { b.is_ascii_digit() } else { is_symbol_byte(*b) };
+        if !fits {
+            return false;
         }
-        [] => false,
     }
+    is_symbol_byte(*first)
 }
 
 fn is_symbol_byte(b: u8) -> bool {

@@ -1,8 +1,10 @@
 //! The names before `=`: `%r` names one result, `%r:2` two, which are used as `%r#0` and `%r#1`.
 
+ghost use Rattle.std.specs.Prelude.{◌≤◌, length};
+
 use super::refusal::{Code, VerifyRefusal, ask, bad};
 use super::scope::Scope;
-use av_affine::{No, Text};
+use av_affine::No;
 use av_tree::Node;
 use std::alloc::{AllocError, Global};
 
@@ -19,22 +21,26 @@ pub(crate) fn has_results(node: &Node, wanted: u64) -> bool {
     sum == wanted
 }
 
-// The place of the `:` in a name.
-fn colon(name: &[u8]) -> Option<usize> {
-    name.iter().position(|b| *b == b':')
-}
-
-fn count_of(name: &[u8]) -> u64 {
-    match colon(name) {
-        Some(at) => decimal(name.get(at..).unwrap_or(&[])),
-        None => 1,
+// The place of the `:` in a name, or its end.
+fn colon(name: &[u8]) -> usize
+    ensures { result ≤ length name.now }
+{
+    for (at, b) in name.iter().enumerate() {
+        if *b == b':' {
+            return at;
+        }
     }
+    name.len()
 }
 
-// The number that the digits after a `:` spell; 0 where another byte stands among them.
-fn decimal(counted: &[u8]) -> u64 {
+// The number after the `:` of a name, 1 where it has none; 0 where another byte stands among its digits.
+fn count_of(name: &[u8]) -> u64 {
+    let (_, counted) = name.split_at(colon(name));
+    let [_, digits @ ..] = counted else {
+        return 1;
+    };
     let mut value: u64 = 0;
-    for digit in counted.get(1..).unwrap_or(&[]) {
+    for digit in digits {
         if !digit.is_ascii_digit() {
             return 0;
         }
@@ -49,7 +55,7 @@ fn decimal(counted: &[u8]) -> u64 {
 pub(crate) fn new_result(scope: &Scope, node: &Node, number: No) -> Result<Vec<u8>, VerifyRefusal> {
     match node.results.as_slice() {
         [only] => {
-            let name = use_name(scope.alloc(), only)?;
+            let name = use_name(scope.alloc(), only.as_slice())?;
             ask(scope.find(name.as_slice()).is_none(), number, Code::New)?;
             Ok(name)
         }
@@ -58,14 +64,11 @@ pub(crate) fn new_result(scope: &Scope, node: &Node, number: No) -> Result<Vec<u
 }
 
 // `%r#0` for `%r:1`, and `%r` for `%r`.
-fn use_name(alloc: Global, name: &Text) -> Result<Vec<u8>, AllocError> {
-    let bytes = name.as_slice();
-    match colon(bytes) {
-        Some(at) => {
-            let mut used = Vec::from_slice(alloc, bytes.get(..at).unwrap_or(&[]))?;
-            used.extend_from_slice(b"#0")?;
-            Ok(used)
-        }
-        None => Vec::from_slice(alloc, bytes),
+fn use_name(alloc: Global, name: &[u8]) -> Result<Vec<u8>, AllocError> {
+    let (used, counted) = name.split_at(colon(name));
+    let mut used = Vec::from_slice(alloc, used)?;
+    if !counted.is_empty() {
+        used.extend_from_slice(b"#0")?;
     }
+    Ok(used)
 }

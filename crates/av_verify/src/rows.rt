@@ -48,11 +48,11 @@ pub(crate) fn properties_of(row: Row) -> &'static [&'static [u8]] {
     }
 }
 
-/// The mark that may stand on an operation, with a number.
-pub(crate) fn mark_of(row: Row) -> Option<&'static [u8]> {
+/// The mark that may stand on an operation, with a number; empty where there is none.
+pub(crate) fn mark_of(row: Row) -> &'static [u8] {
     match row {
-        Row::Loop => Some(b"affvec.loop"),
-        Row::Load | Row::Store => Some(b"affvec.of"),
-        _ => None,
+        Row::Loop => b"affvec.loop",
+        Row::Load | Row::Store => b"affvec.of",
+        _ => b"",
     }
 }

@@ -1,6 +1,6 @@
 //! The values of a function so far, and the names that are visible.
 
-use super::refusal::{Code, VerifyRefusal, ask};
+use super::refusal::{Code, VerifyRefusal, ask, bad};
 use super::types::{agrees, argument_type};
 use av_affine::{No, Seq};
 use av_ir::{Ty, ValueId};
@@ -9,7 +9,7 @@ use indexmap::IndexMap;
 use std::alloc::{AllocError, Global};
 
 /// What a value may be in the operands of a map.
-#[derive(Clone, Copy, Debug, Drop, PartialEq, Eq)]
+#[derive(Clone, Copy)]
 pub(crate) enum Role {
     /// Neither a dimension nor a symbol.
     Plain,
@@ -25,7 +25,7 @@ pub(crate) struct Scope {
     // The types of all values of the function, visible or not.
     values: Seq<Ty>,
     // What each value may be in a map.
-    roles: Seq<Role>,
+    roles: Vec<Role>,
     // The number of the next operation.
     next: No,
     // The number of regions that are open, and how many may be.
@@ -40,7 +40,7 @@ impl Scope {
             alloc,
             names: IndexMap::new(alloc),
             values: Seq::new(alloc),
-            roles: Seq::new(alloc),
+            roles: Vec::new(alloc),
             next: 1,
             regions: 1,
             most_regions,
@@ -50,11 +50,6 @@ impl Scope {
     /// Where memory comes from.
     pub(crate) fn alloc(&self) -> Global {
         self.alloc
-    }
-
-    /// The number of the next operation.
-    pub(crate) fn next(&self) -> No {
-        self.next
     }
 
     /// Takes the number of the next operation.
@@ -74,9 +69,9 @@ impl Scope {
         self.values.get(value.0 as usize)
     }
 
-    /// What a value may be in a map.
-    pub(crate) fn role(&self, value: ValueId) -> Role {
-        self.roles.get(value.0 as usize).copied().unwrap_or(Role::Plain)
+    /// Whether a value may be a dimension of a map.
+    pub(crate) fn is_dimension(&self, value: ValueId) -> bool {
+        matches!(self.roles.get(value.0 as usize), Some(Role::Dimension))
     }
 
     /// The next value of the function, of this type.
@@ -98,10 +93,9 @@ impl Scope {
     pub(crate) fn operands(&self, node: &Node, number: No) -> Result<Seq<ValueId>, VerifyRefusal> {
         let mut values = Seq::new(self.alloc);
         for name in node.operands.as_slice() {
-            let value = self.find(name.as_slice());
-            ask(value.is_some(), number, Code::Visible)?;
-            if let Some(value) = value {
-                values.push(value)?;
+            match self.find(name.as_slice()) {
+                Some(value) => values.push(value)?,
+                None => return Err(bad(number, Code::Visible)),
             }
         }
         Ok(values)
@@ -109,15 +103,16 @@ impl Scope {
 
     /// Whether the types that an operation writes of its operands are those of the values.
     pub(crate) fn agrees_on_operands(&self, node: &Node, operands: &[ValueId]) -> bool {
-        let written = node.in_types.as_slice();
-        written.len() == operands.len()
-            && written
-                .iter()
-                .zip(operands)
-                .all(|(written, value)| match self.ty(*value) {
-                    Some(ty) => agrees(written, ty),
-                    None => false,
-                })
+        for (written, value) in node.in_types.as_slice().iter().zip(operands) {
+            let agreed = match self.ty(*value) {
+                Some(ty) => agrees(written, ty),
+                None => false,
+            };
+            if !agreed {
+                return false;
+            }
+        }
+        node.in_types.len() == operands.len()
     }
 
     /// Makes the names of the arguments of regions visible, for the values to come. Each has to be new.

@@ -62,19 +62,17 @@ pub(crate) fn is_type(ty: &TypeText) -> bool {
 
 /// Whether rank and sizes of a written type are within their limits; layouts aren't taken yet.
 pub(crate) fn is_within_limits(ty: &TypeText) -> bool {
-    match ty {
-        TypeText::MemRef { sizes, layout, .. } => {
-            layout.is_none() && sizes.len() <= MAX_RANK && sizes.as_slice().iter().all(is_size)
+    let TypeText::MemRef { sizes, layout, .. } = ty else {
+        return true;
+    };
+    for size in sizes.as_slice() {
+        if let SizeText::Fixed(size) = size {
+            if *size > MAX_SIZE {
+                return false;
+            }
         }
-        _ => true,
     }
-}
-
-fn is_size(size: &SizeText) -> bool {
-    match size {
-        SizeText::Fixed(size) => *size <= MAX_SIZE,
-        SizeText::Dynamic => true,
-    }
+    layout.is_none() && sizes.len() <= MAX_RANK
 }
 
 /// The type of a block argument whose written type is within its limits.
@@ -102,36 +100,31 @@ pub(crate) fn argument_type(
 fn extents(alloc: Global, sizes: &[SizeText], number: No) -> Result<Seq<Extent>, VerifyRefusal> {
     let mut extents = Seq::new(alloc);
     for size in sizes {
-        let extent = extent_of(size).ok_or(bad(number, Code::Limit))?;
+        let extent = match size {
+            SizeText::Fixed(size) => match u64::try_from(*size) {
+                Ok(size) => Extent::Fixed(size),
+                Err(_) => return Err(bad(number, Code::Limit)),
+            },
+            SizeText::Dynamic => Extent::Dyn,
+        };
         extents.push(extent)?;
     }
     Ok(extents)
 }
 
-fn extent_of(size: &SizeText) -> Option<Extent> {
-    match size {
-        SizeText::Fixed(size) => Some(Extent::Fixed(u64::try_from(*size).ok()?)),
-        SizeText::Dynamic => Some(Extent::Dyn),
-    }
-}
-
 /// Whether a type that is written, or left out, agrees with the type of its value.
 pub(crate) fn agrees(written: &Option<TypeText>, ty: &Ty) -> bool {
-    match written {
-        Some(written) => spells(written, ty),
-        None => true,
-    }
-}
-
-fn spells(written: &TypeText, ty: &Ty) -> bool {
     match (written, ty) {
-        (TypeText::Scalar(name), Ty::Scalar(elem)) => elem_of(name.as_slice()) == Some(*elem),
+        (None, _) => true,
+        (Some(TypeText::Scalar(name)), Ty::Scalar(elem)) => {
+            elem_of(name.as_slice()) == Some(*elem)
+        }
         (
-            TypeText::MemRef {
+            Some(TypeText::MemRef {
                 sizes,
                 elem: name,
                 layout: None,
-            },
+            }),
             Ty::MemRef {
                 sizes: extents,
                 elem,
@@ -145,17 +138,15 @@ fn spells(written: &TypeText, ty: &Ty) -> bool {
 }
 
 fn are_sizes(sizes: &[SizeText], extents: &[Extent]) -> bool {
-    sizes.len() == extents.len()
-        && sizes
-            .iter()
-            .zip(extents)
-            .all(|(size, extent)| is_extent(size, extent))
-}
-
-fn is_extent(size: &SizeText, extent: &Extent) -> bool {
-    match (size, extent) {
-        (SizeText::Fixed(size), Extent::Fixed(extent)) => *size == u128::from(*extent),
-        (SizeText::Dynamic, Extent::Dyn) => true,
-        _ => false,
+    for (size, extent) in sizes.iter().zip(extents) {
+        let same = match (size, extent) {
+            (SizeText::Fixed(size), Extent::Fixed(extent)) => *size == u128::from(*extent),
+            (SizeText::Dynamic, Extent::Dyn) => true,
+            _ => false,
+        };
+        if !same {
+            return false;
+        }
     }
+    sizes.len() == extents.len()
 }
