@@ -20,6 +20,19 @@ const PREV: &str = "module {
 }
 ";
 
+const PREV_MARKED: &str = "module {
+  func.func @prev(%arg0: memref<100xi32>) {
+    %0 = arith.constant 1 : i32
+    affine.for %arg1 = 1 to 100 {
+      %1 = affine.load %arg0[%arg1 - 1] {affvec.of = 4 : i64} : memref<100xi32>
+      %2 = arith.addi %1, %0 : i32
+      affine.store %2, %arg0[%arg1] {affvec.of = 6 : i64} : memref<100xi32>
+    } {affvec.loop = 0 : i64}
+    return
+  }
+}
+";
+
 const ADD: &str = "module {
   func.func @add(%A: memref<100xi32>, %B: memref<100xi32>, %C: memref<100xi32>) {
     affine.for %i = 0 to 100 {
@@ -83,8 +96,23 @@ fn ended(rt: &impl Abort, ran: &Ran, status: Status, output: &str, notes: &str) 
 }
 
 #[test]
+fn a_loop_is_marked_and_kept(rt: HostRuntime) -> Result<(), Fail> {
+    let alloc = rt.alloc();
+    for most in [1, 4096] {
+        let input = source(alloc, PREV, most.max(1))?;
+        let ran = run(alloc, &VECTORIZE, input, sink(alloc))?;
+        let notes = "@prev loop 0: kept not-built 0\n";
+        ended(&rt, &ran, Status::Done, PREV_MARKED, notes);
+    }
+    Ok(())
+}
+
+#[test]
 fn a_fault_ends_the_command(rt: HostRuntime) -> Result<(), Fail> {
     let alloc = rt.alloc();
+    let output = MemSink::new(alloc, 16, vec![in alloc; 1]?);
+    let ran = run(alloc, &VECTORIZE, source(alloc, ADD, 4096)?, output)?;
+    ended(&rt, &ran, Status::WriteFault, "module {\n  func.", "");
     let bytes = ADD.as_bytes().to_vec(alloc)?;
     let input = MemSource::new(bytes, 4096, vec![in alloc; 0]?);
     let ran = run(alloc, &VECTORIZE, input, sink(alloc))?;
