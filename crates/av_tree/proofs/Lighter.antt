@@ -1,5 +1,5 @@
 -- Each row is lighter than its name, so expanding names ends.
-use Rattle.std.proofs.Common.{◌≡◌, refl, IsTrue}
+use Rattle.std.proofs.Common.{refl, IsTrue}
 use Rattle.av_tree.specs.declared.table.Rule.{Rule}
 use Rattle.av_tree.specs.declared.table.Rule.TheVariants as rule
 use Rattle.av_tree.specs.declared.table.file.FileRule.TheVariants as file

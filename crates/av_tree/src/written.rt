@@ -117,7 +117,11 @@ fn copy_type(alloc: Global, ty: &TypeText) -> Result<TypeText, AllocError>
 {
     match ty {
         TypeText::Scalar(name) => Ok(TypeText::Scalar(name.duplicate(alloc)?)),
-        TypeText::MemRef { sizes, elem, layout } => Ok(TypeText::MemRef {
+        TypeText::MemRef {
+            sizes,
+            elem,
+            layout,
+        } => Ok(TypeText::MemRef {
             sizes: sizes.duplicate(alloc)?,
             elem: elem.duplicate(alloc)?,
             layout: copy_layout(alloc, layout)?,
