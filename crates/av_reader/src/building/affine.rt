@@ -242,7 +242,8 @@ fn access(stack: &mut Stack, node: &mut Node, buffer: Text) -> Result<(), Fault>
     let ty = stack.ty()?;
     node.operands.push(buffer)?;
     node.in_types.push(Some(ty))?;
-    let Numbering { map, operands } = place_map(alloc, subscripts)?;
-    push_operands(node, operands)?;
+    let Numbering { map, dims, syms } = place_map(alloc, subscripts)?;
+    push_operands(node, dims)?;
+    push_operands(node, syms)?;
     push_property(alloc, node, b"map", Attr::Map(map))
 }

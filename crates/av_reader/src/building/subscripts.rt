@@ -1,4 +1,5 @@
-//! The map of an access: one parameter for each value in its subscripts, numbered from the left.
+//! The map of an access: one parameter for each value in its subscripts, dimensions and symbols each
+//! numbered from the left. Operands are the values of the dimensions and then those of the symbols.
 
 use super::stack::{Fault, text_of};
 use super::value::{Expression, LeafKind};
@@ -6,11 +7,12 @@ use av_affine::{Duplicate, Held, Seq, Text};
 use av_tree::{ExprText, MapText};
 use std::alloc::Global;
 
-/// The map of an access, and the values of its parameters as they stand in the text.
+/// The map of an access, and the values of its dimensions and of its symbols, each from the left.
 #[derive(Drop)]
 pub(super) struct Numbering {
     pub(super) map: MapText,
-    pub(super) operands: Vec<Text>,
+    pub(super) dims: Vec<Text>,
+    pub(super) syms: Vec<Text>,
 }
 
 // The kinds of the leaves to come, the next one last.
@@ -31,7 +33,8 @@ pub(super) fn place_map(
             syms: Seq::new(alloc),
             results: Seq::new(alloc),
         },
-        operands: Vec::new(alloc),
+        dims: Vec::new(alloc),
+        syms: Vec::new(alloc),
     };
     while let Some(Expression { expr, leaves }) = subscripts.pop() {
         let mut kinds = leaves;
@@ -78,20 +81,24 @@ fn side(
 // The next parameter, for a value.
 fn parameter(alloc: Global, leaves: &mut Leaves, value: &Text) -> Result<Text, Fault> {
     let kind = leaves.kinds.pop().ok_or(Fault::Misshapen)?;
-    let map = &mut leaves.numbering.map;
-    let name = match kind {
-        LeafKind::Dimension => {
-            let name = parameter_name(alloc, "d", map.dims.len())?;
-            map.dims.push(name.duplicate(alloc)?)?;
-            name
-        }
-        LeafKind::Symbol => {
-            let name = parameter_name(alloc, "s", map.syms.len())?;
-            map.syms.push(name.duplicate(alloc)?)?;
-            name
-        }
-    };
-    leaves.numbering.operands.push(value.duplicate(alloc)?)?;
+    let to = &mut leaves.numbering;
+    match kind {
+        LeafKind::Dimension => numbered_value(alloc, "d", value, &mut to.map.dims, &mut to.dims),
+        LeafKind::Symbol => numbered_value(alloc, "s", value, &mut to.map.syms, &mut to.syms),
+    }
+}
+
+// One parameter more, named by the letter and its number, and its value.
+fn numbered_value(
+    alloc: Global,
+    letter: &str,
+    value: &Text,
+    names: &mut Seq<Text>,
+    values: &mut Vec<Text>,
+) -> Result<Text, Fault> {
+    let name = parameter_name(alloc, letter, names.len())?;
+    names.push(name.duplicate(alloc)?)?;
+    values.push(value.duplicate(alloc)?)?;
     Ok(name)
 }
 
