@@ -1,0 +1,16 @@
+//! The tree of a typed module: each value named, each type written.
+#![tactic(auto)]
+
+mod constants;
+mod functions;
+mod maps;
+mod names;
+mod operations;
+mod properties;
+mod texts;
+mod types;
+
+pub use functions::to_tree;
+
+#[cfg(test)]
+mod tests;

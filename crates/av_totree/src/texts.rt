@@ -1,0 +1,37 @@
+//! Texts, and nodes and entries made of them.
+
+use av_affine::{No, Seq, Text};
+use av_tree::{Attr, Named, Node};
+use std::alloc::{AllocError, Global};
+
+pub(crate) fn text_of(alloc: Global, bytes: &[u8]) -> Result<Text, AllocError> {
+    Seq::from_slice(alloc, bytes)
+}
+
+/// A text that ends in a number.
+pub(crate) fn numbered(alloc: Global, front: &str, number: No) -> Result<Text, AllocError> {
+    let text = format!(in alloc; "{front}{number}")?;
+    Ok(Seq::from_vec(text.into_bytes()))
+}
+
+pub(crate) fn entry(alloc: Global, name: &[u8], value: Attr) -> Result<Named, AllocError> {
+    Ok(Named {
+        name: text_of(alloc, name)?,
+        value,
+    })
+}
+
+/// A node of a name, all else empty.
+pub(crate) fn plain_node(alloc: Global, name: &[u8]) -> Result<Node, AllocError> {
+    Ok(Node {
+        name: text_of(alloc, name)?,
+        place: 0,
+        results: Seq::new(alloc),
+        operands: Seq::new(alloc),
+        properties: Seq::new(alloc),
+        attrs: Seq::new(alloc),
+        regions: Seq::new(alloc),
+        in_types: Seq::new(alloc),
+        out_types: Seq::new(alloc),
+    })
+}

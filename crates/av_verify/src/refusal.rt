@@ -1,0 +1,80 @@
+use av_affine::No;
+use std::alloc::{AllocError, AllocFailed};
+use thiserror::Error;
+
+/// Why a tree gives no module.
+#[derive(Debug, Drop, PartialEq, Error)]
+pub enum VerifyRefusal {
+    /// The rule of this code fails at the operation of this number.
+    #[error("operation {0}: V{1}")]
+    Bad(No, u8),
+    /// Memory lacks.
+    #[error("out of memory")]
+    NoMemory,
+}
+
+impl From<AllocError> for VerifyRefusal {
+    fn from(_fault: AllocError) -> VerifyRefusal {
+        VerifyRefusal::NoMemory
+    }
+}
+
+impl<T: Drop> From<AllocFailed<T>> for VerifyRefusal {
+    fn from(_fault: AllocFailed<T>) -> VerifyRefusal {
+        VerifyRefusal::NoMemory
+    }
+}
+
+/// What a rule is about; its code as a number.
+#[derive(Clone, Copy)]
+pub(crate) enum Code {
+    /// The operation's name is known.
+    Name = 1,
+    /// The number of operands.
+    Operands = 2,
+    /// The number of results.
+    Results = 3,
+    /// Operands are visible.
+    Visible = 4,
+    /// A name is new where it is defined.
+    New = 5,
+    Types = 6,
+    /// A needed property is there.
+    Needed = 7,
+    /// The form of each property and mark.
+    Property = 8,
+    /// The arity of maps and lists.
+    Arity = 9,
+    /// Operands of maps are dimensions or symbols.
+    Dimension = 10,
+    Step = 11,
+    Terminator = 12,
+    /// The numbers of regions and of their arguments.
+    Regions = 13,
+    /// Constants fit their types.
+    Constant = 14,
+    /// Expressions are affine and within their limits.
+    Expression = 15,
+    /// The name of a function is new.
+    Function = 16,
+    /// Ranks, sizes, results of maps and nested regions.
+    Limit = 17,
+    /// The mode takes the operation, which may stand here.
+    Place = 18,
+    /// The operations times the lanes.
+    Size = 20,
+}
+
+/// The refusal of an operation by a rule.
+pub(crate) fn bad(number: No, code: Code) -> VerifyRefusal {
+    VerifyRefusal::Bad(number, code as u8)
+}
+
+/// Asks a rule at an operation.
+pub(crate) fn ask(holds: bool, number: No, code: Code) -> Result<(), VerifyRefusal> {
+    if holds {
+        Ok(())
+    } else {
+        Err(bad(number, code))
+    }
+}
