@@ -4,14 +4,24 @@
 //! with `mod`, `floordiv` and `ceildiv` by positive constants.
 #![tactic(auto)]
 
+mod arithmetic;
 mod duplicate;
 mod expression;
 mod held;
+mod laws;
+mod limits;
+mod results;
 mod seq;
+#[cfg(test)]
+mod tests;
+mod values;
 
 pub use duplicate::{Duplicate, duplicate_all};
 pub use expression::{AffMap, AffSet, Expr, Leaf, SetRow};
 pub use held::Held;
+pub use laws::{ceil_rounds_up, floor_rounds_down, remainder_completes};
+pub use limits::is_admissible;
+pub use results::{IndexRange, eval, holds};
 pub use seq::{Seq, set_in};
 
 /// A number or place of an operation, loop, function, value, leaf, argument or block, or a count of

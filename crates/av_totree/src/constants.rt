@@ -11,12 +11,13 @@ use std::alloc::{AllocError, Global};
 /// A constant of a type: a signed number, or a truth value of i1, in `dense` for a vector.
 pub(crate) fn constant(alloc: Global, value: &Const, ty: &Ty) -> Result<Attr, AllocError> {
     match ty {
-        Ty::Scalar(elem) => scalar_constant(alloc, number_of(first_of(value), *elem), ty),
+        Ty::Scalar(elem) | Ty::MemRef { elem, .. } => {
+            scalar_constant(alloc, number_of(first_of(value), *elem), ty)
+        }
         Ty::Vector { shape, elem } => Ok(Attr::Dense {
             elements: vector_constant(alloc, value, shape, *elem)?,
             ty: type_text(alloc, ty)?,
         }),
-        Ty::MemRef { elem, .. } => scalar_constant(alloc, number_of(first_of(value), *elem), ty),
     }
 }
 

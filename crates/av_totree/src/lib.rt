@@ -11,3 +11,6 @@ mod texts;
 mod types;
 
 pub use functions::to_tree;
+
+#[cfg(test)]
+mod tests;

@@ -52,7 +52,11 @@ fn load_type(scope: &Scope, node: &Node, operands: &[ValueId]) -> Option<(usize,
         [written] => agrees(written, &Ty::Scalar(elem)),
         _ => false,
     };
-    if written && scope.agrees_on_operands(node, operands) { Some((rank, elem)) } else { None }
+    if written && scope.agrees_on_operands(node, operands) {
+        Some((rank, elem))
+    } else {
+        None
+    }
 }
 
 /// A store: its operands are the value, the buffer and the values in the subscripts.
@@ -77,7 +81,11 @@ fn store_type(scope: &Scope, node: &Node, operands: &[ValueId]) -> Option<(usize
     let (rank, elem) = buffer_type(scope, *buffer)?;
     let stored = scalar_of(scope.ty(*value)?)?;
     let agreed = stored == elem && node.out_types.is_empty();
-    if agreed && scope.agrees_on_operands(node, operands) { Some((rank, elem)) } else { None }
+    if agreed && scope.agrees_on_operands(node, operands) {
+        Some((rank, elem))
+    } else {
+        None
+    }
 }
 
 // The map of an access to a buffer of this rank, after all rules from that of properties on.
@@ -93,7 +101,11 @@ fn access_map<'t>(
     let map = map_in(node, b"map").ok_or(bad(number, Code::Property))?;
     let fits = arity(map) == subscripts.len() && map.results.len() == rank;
     ask(fits, number, Code::Arity)?;
-    ask(are_map_operands(scope, map, subscripts), number, Code::Dimension)?;
+    ask(
+        are_map_operands(scope, map, subscripts),
+        number,
+        Code::Dimension,
+    )?;
     ask(node.regions.is_empty(), number, Code::Regions)?;
     ask(is_affine_map(map), number, Code::Expression)?;
     ask(map.results.len() <= MAX_RESULTS, number, Code::Limit)?;

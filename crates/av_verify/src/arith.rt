@@ -39,7 +39,11 @@ fn constant_type(node: &Node) -> Option<Elem> {
         Some(Attr::Number { ty, .. }) => written_scalar(ty) == Some(elem),
         _ => true,
     };
-    if agreed && node.in_types.is_empty() { Some(elem) } else { None }
+    if agreed && node.in_types.is_empty() {
+        Some(elem)
+    } else {
+        None
+    }
 }
 
 // Whether a number is the signed or the unsigned value of a pattern of the width.
@@ -79,5 +83,9 @@ fn binary_type(scope: &Scope, node: &Node, operands: &[ValueId]) -> Option<Elem>
         [written] => agrees(written, ty),
         _ => false,
     };
-    if right == elem && written && scope.agrees_on_operands(node, operands) { Some(elem) } else { None }
+    if right == elem && written && scope.agrees_on_operands(node, operands) {
+        Some(elem)
+    } else {
+        None
+    }
 }

@@ -54,7 +54,9 @@ fn nodes(expr: &ExprText) -> u64 {
         | ExprText::Mul(a, b)
         | ExprText::Mod(a, b)
         | ExprText::Floor(a, b)
-        | ExprText::Ceil(a, b) => nodes(a.get()).saturating_add(nodes(b.get())).saturating_add(1),
+        | ExprText::Ceil(a, b) => nodes(a.get())
+            .saturating_add(nodes(b.get()))
+            .saturating_add(1),
     }
 }
 
@@ -83,5 +85,9 @@ fn parameter_bound(map: &MapText, name: &[u8]) -> Option<u128> {
 }
 
 fn limited(bound: u128) -> Option<u128> {
-    if bound <= MAX_BOUND { Some(bound) } else { None }
+    if bound <= MAX_BOUND {
+        Some(bound)
+    } else {
+        None
+    }
 }

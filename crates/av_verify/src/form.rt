@@ -100,10 +100,12 @@ fn is_plain_constant(node: &Node) -> bool {
         && node.attrs.is_empty()
         && node.properties.len() == 1
         && match entry(node, b"value") {
-            Some(Attr::Number {
-                ty: TypeText::Scalar(name),
-                ..
-            }) => name.as_slice() == b"i32".as_slice(),
+            Some(
+                Attr::Number {
+                    ty: TypeText::Scalar(name),
+                    ..
+                },
+            ) => name.as_slice() == b"i32".as_slice(),
             _ => false,
         }
 }
@@ -180,7 +182,10 @@ fn is_plain_subscript(map: &MapText, values: &[Text], variable: &[u8]) -> bool {
     match map.results.as_slice() {
         [ExprText::Const(_)] => has_no_parameter(map) && values.is_empty(),
         [ExprText::Name(name)] => is_variable(map, name, values, variable),
-        [ExprText::Add(left, right) | ExprText::Sub(left, right)] => match (left.get(), right.get()) {
+        [ExprText::Add(left, right) | ExprText::Sub(left, right)] => match (
+            left.get(),
+            right.get(),
+        ) {
             (ExprText::Name(name), ExprText::Const(_)) => is_variable(map, name, values, variable),
             _ => false,
         },

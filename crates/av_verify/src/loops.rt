@@ -16,7 +16,7 @@ use av_tree::{Attr, Body, MapText, Node};
 use std::alloc::Global;
 
 /// The greatest step.
-const MAX_STEP: i128 = 0x7FFF_FFFF;
+const MAX_STEP: u64 = 0x7FFF_FFFF;
 
 // The bounds of a loop as they are written, each with its operands, and its step.
 #[derive(Clone, Copy)]
@@ -94,7 +94,11 @@ fn range_of<'t>(
     let lowers = arity(lower);
     let uppers = arity(upper);
     let parted = counts == [lowers as i128, uppers as i128, 0].as_slice();
-    ask(parted && lowers.saturating_add(uppers) == values.len(), number, Code::Arity)?;
+    ask(
+        parted && lowers.saturating_add(uppers) == values.len(),
+        number,
+        Code::Arity,
+    )?;
     let bounded = !lower.results.is_empty() && !upper.results.is_empty();
     ask(bounded, number, Code::Arity)?;
     Ok(Range {
@@ -102,7 +106,8 @@ fn range_of<'t>(
         upper,
         lower_values: values.get(..lowers).unwrap_or(&[]),
         upper_values: values.get(lowers..).unwrap_or(&[]),
-        step: if 1 <= step && step <= MAX_STEP { step as u64 } else { 0 },
+        // 0, which no loop takes, stands for a step that is no u64.
+        step: u64::try_from(step).unwrap_or(0),
     })
 }
 
@@ -118,7 +123,11 @@ fn ask_range(scope: &Scope, range: &Range<'_>, number: No) -> Result<(), VerifyR
     let known = are_map_operands(scope, range.lower, range.lower_values)
         && are_map_operands(scope, range.upper, range.upper_values);
     ask(known, number, Code::Dimension)?;
-    ask(range.step != 0, number, Code::Step)
+    ask(
+        1 <= range.step && range.step <= MAX_STEP,
+        number,
+        Code::Step,
+    )
 }
 
 fn loop_op(alloc: Global, range: &Range<'_>, number: No) -> Result<Op, VerifyRefusal> {

@@ -76,10 +76,18 @@ fn operations_in(node: &Node) -> u64 {
 
 // The function of the module, whose name and attributes are dropped.
 fn only_function(root: &Node) -> Result<&Node, VerifyRefusal> {
-    ask(matches!(row_of(root.name.as_slice()), Some(Row::Module)), 0, Code::Name)?;
+    ask(
+        matches!(row_of(root.name.as_slice()), Some(Row::Module)),
+        0,
+        Code::Name,
+    )?;
     ask(root.operands.is_empty(), 0, Code::Operands)?;
     ask(has_results(root, 0), 0, Code::Results)?;
-    ask(root.in_types.is_empty() && root.out_types.is_empty(), 0, Code::Types)?;
+    ask(
+        root.in_types.is_empty() && root.out_types.is_empty(),
+        0,
+        Code::Types,
+    )?;
     match root.regions.as_slice() {
         [body] => {
             ask(body.args.is_empty(), 0, Code::Regions)?;
@@ -117,7 +125,11 @@ fn function_region(scope: &mut Scope, node: &Node, number: No) -> Result<Region,
 
 // The name of a function whose arguments are declared, after all rules on the function itself.
 fn function_header(scope: &mut Scope, node: &Node, number: No) -> Result<Text, VerifyRefusal> {
-    ask(matches!(row_of(node.name.as_slice()), Some(Row::Function)), number, Code::Name)?;
+    ask(
+        matches!(row_of(node.name.as_slice()), Some(Row::Function)),
+        number,
+        Code::Name,
+    )?;
     ask(node.operands.is_empty(), number, Code::Operands)?;
     ask(has_results(node, 0), number, Code::Results)?;
     scope.declare(node.regions.as_slice(), number)?;
@@ -190,7 +202,11 @@ fn is_symbol(name: &[u8]) -> bool {
         return false;
     };
     for b in rest {
-        let fits = if first.is_ascii_digit() { b.is_ascii_digit() } else { is_symbol_byte(*b) };
+        let fits = if first.is_ascii_digit() {
+            b.is_ascii_digit()
+        } else {
+            is_symbol_byte(*b)
+        };
         if !fits {
             return false;
         }

@@ -72,5 +72,9 @@ pub(crate) fn bad(number: No, code: Code) -> VerifyRefusal {
 
 /// Asks a rule at an operation.
 pub(crate) fn ask(holds: bool, number: No, code: Code) -> Result<(), VerifyRefusal> {
-    if holds { Ok(()) } else { Err(bad(number, code)) }
+    if holds {
+        Ok(())
+    } else {
+        Err(bad(number, code))
+    }
 }

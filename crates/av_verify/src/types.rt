@@ -76,11 +76,7 @@ pub(crate) fn is_within_limits(ty: &TypeText) -> bool {
 }
 
 /// The type of a block argument whose written type is within its limits.
-pub(crate) fn argument_type(
-    alloc: Global,
-    ty: &TypeText,
-    number: No,
-) -> Result<Ty, VerifyRefusal> {
+pub(crate) fn argument_type(alloc: Global, ty: &TypeText, number: No) -> Result<Ty, VerifyRefusal> {
     match ty {
         TypeText::Scalar(name) => match elem_of(name.as_slice()) {
             Some(elem) => Ok(Ty::Scalar(elem)),
@@ -120,11 +116,13 @@ pub(crate) fn agrees(written: &Option<TypeText>, ty: &Ty) -> bool {
             elem_of(name.as_slice()) == Some(*elem)
         }
         (
-            Some(TypeText::MemRef {
-                sizes,
-                elem: name,
-                layout: None,
-            }),
+            Some(
+                TypeText::MemRef {
+                    sizes,
+                    elem: name,
+                    layout: None,
+                },
+            ),
             Ty::MemRef {
                 sizes: extents,
                 elem,

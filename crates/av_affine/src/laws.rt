@@ -1,0 +1,17 @@
+//! What holds of the divisions of expressions, for the proofs of callers. These functions do nothing.
+ghost use Rattle.av_affine.specs.Divisions.{CeilLaw, FloorLaw, RemainderLaw};
+
+/// The quotient times the divisor plus the remainder is the number; the remainder is from 0 to the divisor less one.
+pub fn remainder_completes()
+    ensures { RemainderLaw }
+{}
+
+/// `floordiv` gives the greatest whole number that is at most the fraction.
+pub fn floor_rounds_down()
+    ensures { FloorLaw }
+{}
+
+/// `ceildiv` gives the least whole number that is at least the fraction.
+pub fn ceil_rounds_up()
+    ensures { CeilLaw }
+{}

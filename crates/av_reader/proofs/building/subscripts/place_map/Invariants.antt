@@ -1,0 +1,5 @@
+use Rattle.std.proofs.Common.{vec_len}
+use Rattle.av_reader.proofs.building.subscripts.place_map.Given as goal
+
+abbrev pub decreases-loop-expr : goal.decreases-loop-expr
+decreases-loop-expr l = vec_len l.subscripts
