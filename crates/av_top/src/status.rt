@@ -1,3 +1,5 @@
+//! How the command ended.
+
 ghost use Rattle.std.specs.Prelude.{◌≡◌};
 ghost use Rattle.av_top.specs.Number.{number_of};
 
