@@ -151,8 +151,8 @@ pub fn fits(test: Test, class: Class) -> bool
         Test::HashDigits => matches!(class, Class::HashDigits),
         Test::Word => is_word_class(class),
         Test::Parameter => !matches!(class, Class::Word(Keyword::Division)) && is_word_class(class),
-        Test::EntryName =>
-            !matches!(class, Class::Word(Keyword::FunctionType)) && is_word_class(class),
+        Test::EntryName => !matches!(class, Class::Word(Keyword::FunctionType))
+            && is_word_class(class),
         Test::Terminator => matches!(class, Class::Word(Keyword::Terminator)),
         Test::Overflowing => matches!(class, Class::Word(Keyword::Overflowing)),
         Test::Visibility => matches!(class, Class::Word(Keyword::Visibility)),
