@@ -5,8 +5,10 @@
 #![tactic(auto)]
 
 mod building;
+mod derivation;
 mod machine;
 mod reading;
 
-pub use machine::{Event, Limits, Machine, Stop};
+pub use derivation::{Refused, derive};
+pub use machine::{Event, Limits, Stop};
 pub use reading::{LIMITS, ReadRefusal, read};

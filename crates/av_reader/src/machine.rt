@@ -1,6 +1,8 @@
 //! The predictive machine: a stack of symbols, which one token after another uses up.
 
-ghost use Rattle.std.specs.Prelude.{◌≡◌, ◌++◌, reverse, OnOk};
+ghost use Rattle.std.specs.Prelude.{◌≡◌, ◌+◌, ◌^◌, ◌<◌, ◌≤◌, ◌++◌, ◌∷◌, [], false, drop, length, reverse, IfOk, OnOk};
+ghost use Rattle.av_reader.specs.Derivation.{Derived, signs_with};
+ghost use Rattle.av_reader.specs.State.{Expanded, Shifted, Stands, StandsFresh, ahead as ahead_of};
 
 use av_tree::table::{
     FileName, Name, Rule, Symbol, begins_expression, choose, counts_sign, fits, need, symbols,
@@ -55,7 +57,7 @@ pub struct Machine {
     events: Vec<Event>,
     limits: Limits,
     // How many brackets are open, and how many signs the expression has.
-    open: u32,
+    depth: u32,
     signs: u32,
     // Whether a row chosen before the next token passes a limit, and whether one counts a sign.
     over: bool,
@@ -68,46 +70,65 @@ impl Machine {
     /// # Errors
     ///
     /// Want of memory.
-    pub fn new(alloc: Global, limits: Limits) -> Result<Machine, AllocError> {
+    pub fn new(alloc: Global, limits: Limits) -> Result<Machine, AllocError>
+        ensures limits { IfOk result (λ machine. machine.limits ≡ limits) }
+        ensures stands { IfOk result (λ machine. StandsFresh machine) }
+    {
         let mut stack = Vec::new(alloc);
         stack.push(Symbol::Rows(Name::File(FileName::File)))?;
         Ok(Machine {
             stack,
             events: Vec::new(alloc),
             limits,
-            open: 0,
+            depth: 0,
             signs: 0,
             over: false,
             counted: false,
         })
     }
 
-    /// Takes a token of this class and number.
+    /// Takes the token of number `at`, where these are the classes of all tokens.
     ///
     /// # Errors
     ///
     /// The token is wrong, or memory lacks.
-    pub fn take(&mut self, class: Class, at: u32) -> Result<(), Stop> {
-        match self.expand(class, at)? {
-            Some(symbol) => self.shift(symbol, class, at),
+    pub fn take(&mut self, classes: &[Class], at: u32) -> Result<(), Stop>
+        requires within { at < length classes.now }
+        requires stands { Stands self.old classes.now at }
+        ensures stands { OnOk result (Stands self.new classes.now (at + 1)) }
+        ensures limits { OnOk result (self.new.limits ≡ self.old.limits) }
+    {
+        match self.expand(classes, at)? {
+            Some(symbol) => self.shift(symbol, classes[at as usize], at),
             None => Err(Stop::Wrong),
         }
     }
 
-    /// The derivation of all tokens taken, of which there are `count`.
+    /// The derivation of all tokens, which were taken one by one and of which there are `count`.
     ///
     /// # Errors
     ///
     /// More tokens are needed (`Wrong`), or memory lacks.
-    pub fn finish(mut self, count: u32) -> Result<Vec<Event>, Stop> {
-        match self.expand(Class::End, count)? {
-            Some(_) => Err(Stop::Wrong),
-            None => Ok(self.events),
+    pub fn finish(mut self, classes: &[Class], count: u32) -> Result<Vec<Event>, Stop>
+        requires all { count ≡ length classes.now }
+        requires stands { Stands self classes.now count }
+        ensures { IfOk result (λ events. Derived self.limits classes.now events.items) }
+    {
+        match self.expand(classes, count)? {
+            None if !self.over => Ok(self.events),
+            _ => Err(Stop::Wrong),
         }
     }
 
     // Expands names until a token stands next, which is taken off the stack; none where nothing is left.
-    fn expand(&mut self, class: Class, at: u32) -> Result<Option<Symbol>, AllocError> {
+    fn expand(&mut self, classes: &[Class], at: u32) -> Result<Option<Symbol>, AllocError>
+        requires { Stands self.old classes.now at }
+        ensures expanded { IfOk result (λ next. Expanded self.new next classes.now at) }
+        ensures empty { IfOk result (λ next. next ≡ None → self.new.stack.items ≡ []) }
+        ensures limits { self.new.limits ≡ self.old.limits }
+        ensures brackets { self.new.depth ≡ self.old.depth }
+    {
+        let class = ahead(classes, at);
         self.over = false;
         self.counted = false;
         while let Some(symbol) = self.stack.pop() {
@@ -125,10 +146,16 @@ impl Machine {
 
     // Notes a row, and whether it passes a limit.
     fn enter(&mut self, rule: Rule, at: u32) -> Result<(), AllocError>
-        ensures { self.new.stack.items ≡ self.old.stack.items }
+        ensures stack { self.new.stack.items ≡ self.old.stack.items }
+        ensures limits { self.new.limits ≡ self.old.limits }
+        ensures brackets { self.new.depth ≡ self.old.depth }
+        ensures events { OnOk result (self.new.events.items ≡ self.old.events.items ++ Event.Row rule at ∷ []) }
+        ensures under { OnOk result (self.new.over ≡ false → self.old.over ≡ false) }
+        ensures counted { OnOk result (self.new.over ≡ false → self.new.signs ≡ signs_with rule self.old.signs) }
+        ensures signs { OnOk result (self.new.over ≡ false → self.old.signs ≤ self.old.limits.signs → self.new.signs ≤ self.old.limits.signs) }
     {
         self.events.push(Event::Row { rule, at })?;
-        if self.open.saturating_add(need(rule)) > self.limits.brackets {
+        if self.depth.saturating_add(need(rule)) > self.limits.brackets {
             self.over = true;
         }
         if begins_expression(rule) {
@@ -145,7 +172,9 @@ impl Machine {
     }
 
     // Takes a token where a symbol of the stack asks for one.
-    fn shift(&mut self, symbol: Symbol, class: Class, at: u32) -> Result<(), Stop> {
+    fn shift(&mut self, symbol: Symbol, class: Class, at: u32) -> Result<(), Stop>
+        ensures { OnOk result (Shifted self.old self.new symbol class at) }
+    {
         let (fitting, spelled) = match symbol {
             Symbol::Sign(sign) => (class == Class::Sign(sign), false),
             Symbol::Word(word) => (class == Class::Word(word), false),
@@ -156,7 +185,7 @@ impl Machine {
             return Err(Stop::Wrong);
         }
         let bracket = bracket_of(class);
-        if self.over {
+        if self.over || (bracket == Bracket::Opens && self.depth >= self.limits.brackets) {
             return Err(if self.counted || bracket == Bracket::Opens {
                 Stop::TooDeep
             } else {
@@ -164,14 +193,24 @@ impl Machine {
             });
         }
         match bracket {
-            Bracket::Opens => self.open = self.open.saturating_add(1),
-            Bracket::Closes => self.open = self.open.saturating_sub(1),
+            Bracket::Opens => self.depth += 1,
+            Bracket::Closes => self.depth = self.depth.saturating_sub(1),
             Bracket::None => {}
         }
         if spelled {
             self.events.push(Event::Token(at))?;
         }
         Ok(())
+    }
+}
+
+// The class of the token of number `at`, or of the end.
+fn ahead(classes: &[Class], at: u32) -> Class
+    ensures { result ≡ ahead_of (drop at classes.now) }
+{
+    match classes.get(at as usize) {
+        Some(class) => *class,
+        None => Class::End,
     }
 }
 

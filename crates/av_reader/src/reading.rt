@@ -3,9 +3,10 @@
 ghost use Rattle.std.specs.Prelude.{◌<◌, ◌^◌, length};
 
 use super::building::{BuildFault, build};
-use super::machine::{Limits, Machine, Stop};
+use super::derivation::derive;
+use super::machine::{Limits, Stop};
 use av_lex::Token;
-use av_tree::{Tree, class_of, spelling_of};
+use av_tree::{Class, Tree, class_of, spelling_of};
 use std::alloc::{AllocError, Global};
 use thiserror::Error;
 
@@ -44,21 +45,28 @@ pub const LIMITS: Limits = Limits {
 pub fn read(alloc: Global, bytes: &[u8], tokens: &[Token]) -> Result<Tree, ReadRefusal>
     requires { length bytes.now < 2 ^ 32 }
 {
-    let mut machine = Machine::new(alloc, LIMITS)?;
-    let mut at: u32 = 0;
-    for token in tokens {
-        let class = class_of(token.kind, spelling_of(bytes, token));
-        machine
-            .take(class, at)
-            .map_err(|stop| refusal(stop, token.place))?;
-        at = at.saturating_add(1);
-    }
-    let end = u32::try_from(bytes.len()).unwrap_or(u32::MAX);
-    let events = machine.finish(at).map_err(|stop| refusal(stop, end))?;
+    let classes = classes_of(alloc, bytes, tokens)?;
+    let events = match derive(alloc, &classes, LIMITS) {
+        Ok(events) => events,
+        Err(refused) => {
+            let end = u32::try_from(bytes.len()).unwrap_or(u32::MAX);
+            let place = tokens.get(refused.at).map_or(end, |token| token.place);
+            return Err(refusal(refused.stop, place));
+        }
+    };
     build(alloc, bytes, tokens, events).map_err(|fault| match fault {
         BuildFault::NoMemory => ReadRefusal::NoMemory,
         BuildFault::Misshapen => ReadRefusal::NotAModule(0),
     })
+}
+
+// The classes of tokens, in order.
+fn classes_of(alloc: Global, bytes: &[u8], tokens: &[Token]) -> Result<Vec<Class>, AllocError> {
+    let mut classes = Vec::with_capacity(alloc, tokens.len())?;
+    for token in tokens {
+        classes.push(class_of(token.kind, spelling_of(bytes, token)))?;
+    }
+    Ok(classes)
 }
 
 fn refusal(stop: Stop, place: u32) -> ReadRefusal {

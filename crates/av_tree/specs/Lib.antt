@@ -1,2 +1,4 @@
+pub mod Classes
+pub mod Signs
 pub mod Table
 pub mod rows

@@ -1,5 +1,9 @@
 //! Classes of tokens: what the rows of the format tell apart.
 
+ghost use Rattle.std.specs.Prelude.{◌≡◌};
+ghost use Rattle.av_tree.specs.Classes.{is_word};
+ghost use Rattle.av_tree.specs.Classes.{bracket_of as bracket_of_class};
+
 use av_lex::{Kind, Sign, Token};
 
 /// A word, or a set of words, that some row asks for.
@@ -180,12 +184,16 @@ fn is_word_byte(b: u8) -> bool {
 }
 
 /// Whether a class is that of a word.
-pub fn is_word_class(class: Class) -> bool {
+pub fn is_word_class(class: Class) -> bool
+    ensures { result ≡ is_word class }
+{
     matches!(class, Class::Word(_) | Class::Scalar | Class::OtherWord)
 }
 
 /// What a token of this class does to the brackets that are open.
-pub fn bracket_of(class: Class) -> Bracket {
+pub fn bracket_of(class: Class) -> Bracket
+    ensures { result ≡ bracket_of_class class }
+{
     match class {
         Class::Sign(Sign::OpenRound | Sign::OpenCurly | Sign::OpenSquare | Sign::OpenAngle) =>
             Bracket::Opens,

@@ -5,6 +5,8 @@
 //! a token; where none can, any row is given, and its first token refuses that token.
 
 ghost use Rattle.std.specs.Prelude.{◌≡◌, IsTrue};
+ghost use Rattle.av_tree.specs.Classes.{fits_of};
+ghost use Rattle.av_tree.specs.Signs.{begins_expression as begins_expression_of, counts_sign as counts_sign_of};
 ghost use Rattle.av_tree.specs.Table.{symbols_of, name_of, is_lighter};
 
 mod affine;
@@ -137,22 +139,25 @@ pub fn choose(name: Name, class: Class) -> Rule
 }
 
 /// Whether a token of this class may stand for a test.
-pub fn fits(test: Test, class: Class) -> bool {
+pub fn fits(test: Test, class: Class) -> bool
+    ensures { result ≡ fits_of test class }
+{
     match test {
         Test::Number => matches!(class, Class::Zero | Class::Positive),
-        Test::DimX => class == Class::DimX,
-        Test::Scalar => class == Class::Scalar,
-        Test::ValId => class == Class::ValId,
-        Test::SymId => class == Class::SymId,
-        Test::HashDigits => class == Class::HashDigits,
+        Test::DimX => matches!(class, Class::DimX),
+        Test::Scalar => matches!(class, Class::Scalar),
+        Test::ValId => matches!(class, Class::ValId),
+        Test::SymId => matches!(class, Class::SymId),
+        Test::HashDigits => matches!(class, Class::HashDigits),
         Test::Word => is_word_class(class),
-        Test::Parameter => is_word_class(class) && class != Class::Word(Keyword::Division),
-        Test::EntryName => is_word_class(class) && class != Class::Word(Keyword::FunctionType),
-        Test::Terminator => class == Class::Word(Keyword::Terminator),
-        Test::Overflowing => class == Class::Word(Keyword::Overflowing),
-        Test::Visibility => class == Class::Word(Keyword::Visibility),
-        Test::OverflowFlag => class == Class::Word(Keyword::OverflowFlag),
-        Test::Division => class == Class::Word(Keyword::Division),
+        Test::Parameter => !matches!(class, Class::Word(Keyword::Division)) && is_word_class(class),
+        Test::EntryName => !matches!(class, Class::Word(Keyword::FunctionType))
+            && is_word_class(class),
+        Test::Terminator => matches!(class, Class::Word(Keyword::Terminator)),
+        Test::Overflowing => matches!(class, Class::Word(Keyword::Overflowing)),
+        Test::Visibility => matches!(class, Class::Word(Keyword::Visibility)),
+        Test::OverflowFlag => matches!(class, Class::Word(Keyword::OverflowFlag)),
+        Test::Division => matches!(class, Class::Word(Keyword::Division)),
     }
 }
 
@@ -178,7 +183,9 @@ pub fn need(rule: Rule) -> u32 {
 }
 
 /// Whether an expression begins with a row, so that the count of its signs begins at 0.
-pub fn begins_expression(rule: Rule) -> bool {
+pub fn begins_expression(rule: Rule) -> bool
+    ensures { result ≡ begins_expression_of rule }
+{
     matches!(
         rule,
         Rule::Map(MapRule::WholeExpression) | Rule::Subscript(SubscriptRule::WholeSubscript)
@@ -186,7 +193,9 @@ pub fn begins_expression(rule: Rule) -> bool {
 }
 
 /// Whether a row begins with a sign or word that the limit on signs counts.
-pub fn counts_sign(rule: Rule) -> bool {
+pub fn counts_sign(rule: Rule) -> bool
+    ensures { result ≡ counts_sign_of rule }
+{
     matches!(
         rule,
         Rule::Map(

@@ -1,7 +1,16 @@
 -- What weighs on the stack before the next token falls with each row.
-use Rattle.std.proofs.Common.{reverse}
+use Rattle.std.proofs.Common.{◌≡◌, false, reverse, take}
 use Rattle.av_tree.specs.Table.{lead}
+use Rattle.av_reader.specs.State.{Leads, Counted}
 use Rattle.av_reader.proofs.machine.Machine.expand.Given as goal
 
 abbrev pub decreases-loop-symbol : goal.decreases-loop-symbol
 decreases-loop-symbol l = lead (reverse l.self.stack.items)
+
+abbrev pub invariant-loop-symbol : goal.invariant-loop-symbol
+invariant-loop-symbol l = record {
+  leads : Leads l.at (take l.at l.classes) l.self.events.items (reverse l.self.stack.items);
+  signs : l.self.over ≡ false → Counted l.self.limits.signs l.self.signs l.self.events.items;
+  limits : l.self.limits ≡ l.fn.self.limits;
+  depth : l.self.depth ≡ l.fn.self.depth;
+}

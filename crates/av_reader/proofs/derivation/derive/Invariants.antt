@@ -1,0 +1,9 @@
+use Rattle.std.proofs.Common.{◌≡◌}
+use Rattle.av_reader.specs.State.{Stands}
+use Rattle.av_reader.proofs.derivation.derive.Given as goal
+
+abbrev pub invariant-loop-at : goal.invariant-loop-at
+invariant-loop-at l = record {
+  stands : Stands l.machine l.classes l.at;
+  limits : l.machine.limits ≡ l.fn.limits;
+}

@@ -1,0 +1,66 @@
+-- Which events derive which classes of tokens, and when they keep the limits.
+use Rattle.std.specs.Prelude.{◌≡◌, ℕ, suc, ◌+◌, ◌-◌, ◌≤◌, Bool, true, false, IsTrue, if◌then◌else◌, List, [], ◌∷◌, ◌++◌}
+use Rattle.av_tree.specs.declared.class.Class.{Class}
+use Rattle.av_tree.specs.declared.class.Class.TheVariants as class
+use Rattle.av_tree.specs.declared.class.Bracket.{Bracket}
+use Rattle.av_tree.specs.declared.class.Bracket.TheVariants as bracket
+use Rattle.av_tree.specs.declared.class.Keyword.{Keyword}
+use Rattle.av_lex.specs.declared.token.Sign.{Sign}
+use Rattle.av_tree.specs.declared.table.Test.{Test}
+use Rattle.av_tree.specs.declared.table.Symbol.{Symbol}
+use Rattle.av_tree.specs.declared.table.Symbol.TheVariants as symbol
+use Rattle.av_tree.specs.declared.table.Name.{Name}
+use Rattle.av_tree.specs.declared.table.Name.TheVariants as name
+use Rattle.av_tree.specs.declared.table.file.FileName.TheVariants as file_name
+use Rattle.av_tree.specs.declared.table.Rule.{Rule}
+use Rattle.av_tree.specs.Table.{symbols_of, name_of}
+use Rattle.av_tree.specs.Classes.{fits_of, bracket_of}
+use Rattle.av_tree.specs.Signs.{begins_expression, counts_sign}
+use Rattle.av_reader.specs.declared.machine.Event.{Event}
+use Rattle.av_reader.specs.declared.machine.Event.TheVariants as event
+use Rattle.av_reader.specs.declared.machine.Limits.{Limits}
+
+-- From the left, the symbols give tokens of these classes by these events, where n is the number of
+-- the first of the tokens. A sign or a word gives itself; a test gives a token that fits it, and that
+-- is an event; a name gives what the symbols of one of its rows give, and the row is an event.
+pub data Derives : ℕ → List Symbol → List Class → List Event → Type 0 where
+  nothing_left : {n : ℕ} → Derives n [] [] []
+  by_sign : {n : ℕ} {s : Sign} {ss : List Symbol} {cs : List Class} {es : List Event}
+      → Derives (suc n) ss cs es → Derives n (symbol.Sign s ∷ ss) (class.Sign s ∷ cs) es
+  by_word : {n : ℕ} {w : Keyword} {ss : List Symbol} {cs : List Class} {es : List Event}
+      → Derives (suc n) ss cs es → Derives n (symbol.Word w ∷ ss) (class.Word w ∷ cs) es
+  by_token : {n : ℕ} {t : Test} {c : Class} {ss : List Symbol} {cs : List Class} {es : List Event}
+      → IsTrue (fits_of t c) → Derives (suc n) ss cs es → Derives n (symbol.Token t ∷ ss) (c ∷ cs) (event.Token n ∷ es)
+  by_row : {n : ℕ} {x : Name} {ss : List Symbol} {cs : List Class} {es : List Event} (r : Rule) → name_of r ≡ x
+      → Derives n (symbols_of r ++ ss) cs es → Derives n (symbol.Rows x ∷ ss) cs (event.Row r n ∷ es)
+
+-- a file, from its first token on
+abbrev pub DerivesFile : List Class → List Event → Type 0
+DerivesFile cs es = Derives 0 (symbol.Rows (name.File file_name.File) ∷ []) cs es
+
+-- how many brackets are open after a token that does this
+abbrev pub opened : Bracket → ℕ → ℕ
+opened bracket.Opens before = before + 1
+opened bracket.Closes before = before - 1
+opened bracket.None before = before
+
+-- at most so many brackets are open at once, where so many were open before
+abbrev pub WithinBrackets : ℕ → ℕ → List Class → Type 0
+WithinBrackets most before [] = Unit {0}
+WithinBrackets most before (c ∷ cs) = (opened (bracket_of c) before ≤ most) × WithinBrackets most (opened (bracket_of c) before) cs
+
+-- how many signs and words the expression has after a row: its own row begins the count
+abbrev pub signs_with : Rule → ℕ → ℕ
+signs_with r before = (if begins_expression r then 0 else before) + (if counts_sign r then 1 else 0)
+
+-- at most so many signs and words of calculation are in one expression, where so many were before
+abbrev pub WithinSigns : ℕ → ℕ → List Event → Type 0
+WithinSigns most before [] = Unit {0}
+WithinSigns most before (event.Token n ∷ es) = WithinSigns most before es
+WithinSigns most before (event.Row r n ∷ es) = (signs_with r before ≤ most) × WithinSigns most (signs_with r before) es
+
+-- the events derive a file of these classes of tokens, and keep the limits
+pub record Derived (limits : Limits) (cs : List Class) (es : List Event) : Type 0 where
+  pub derives : DerivesFile cs es
+  pub brackets : WithinBrackets limits.brackets 0 cs
+  pub signs : WithinSigns limits.signs 0 es

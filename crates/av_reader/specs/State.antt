@@ -1,0 +1,82 @@
+-- What holds of a machine between two tokens, and of its steps.
+use Rattle.std.specs.Prelude.{◌≡◌, ℕ, ◌+◌, ◌<◌, ◌≤◌, Bool, true, false, IsTrue, List, [], ◌∷◌, ◌++◌, reverse, take, Option, Some, None}
+use Rattle.av_tree.specs.declared.class.Class.{Class}
+use Rattle.av_tree.specs.declared.class.Class.TheVariants as class
+use Rattle.av_tree.specs.declared.class.Bracket.TheVariants as bracket
+use Rattle.av_tree.specs.declared.table.Symbol.{Symbol}
+use Rattle.av_tree.specs.declared.table.Symbol.TheVariants as symbol
+use Rattle.av_tree.specs.Classes.{fits_of, bracket_of}
+use Rattle.av_reader.specs.declared.machine.Event.{Event}
+use Rattle.av_reader.specs.declared.machine.Event.TheVariants as event
+use Rattle.av_reader.specs.declared.machine.Limits.{Limits}
+use Rattle.av_reader.specs.declared.machine.Machine.{Machine}
+use Rattle.av_reader.specs.Derivation.{Derives, DerivesFile, opened, WithinBrackets, signs_with, WithinSigns}
+
+-- Whatever derives the rest from the symbols derives the whole with what was taken before.
+pub record Leads (n : ℕ) (taken : List Class) (events : List Event) (symbols : List Symbol) : Type 0 where
+  pub whole : (cs : List Class) (es : List Event) → Derives n symbols cs es → DerivesFile (taken ++ cs) (events ++ es)
+
+-- how many brackets are open after these tokens
+abbrev pub open_after : ℕ → List Class → ℕ
+open_after before [] = before
+open_after before (c ∷ cs) = open_after (opened (bracket_of c) before) cs
+
+-- how many signs the expression has after these events
+abbrev pub signs_after : ℕ → List Event → ℕ
+signs_after before [] = before
+signs_after before (event.Token n ∷ es) = signs_after before es
+signs_after before (event.Row r n ∷ es) = signs_after (signs_with r before) es
+
+-- the class of the first token, or of the end
+abbrev pub ahead : List Class → Class
+ahead [] = class.End
+ahead (c ∷ cs) = c
+
+-- a token of the class stands where the symbol asks for one
+abbrev pub Fits : Symbol → Class → Type 0
+Fits (symbol.Sign s) c = c ≡ class.Sign s
+Fits (symbol.Word w) c = c ≡ class.Word w
+Fits (symbol.Token t) c = IsTrue (fits_of t c)
+Fits (symbol.Rows x) c = ⊥
+
+-- the event of a token where the symbol asks for one
+abbrev pub spelled : Symbol → ℕ → List Event
+spelled (symbol.Token t) n = event.Token n ∷ []
+spelled _ n = []
+
+-- the symbols with the one that was taken off the stack
+abbrev pub with_next : Option Symbol → List Symbol → List Symbol
+with_next (Some s) stack = s ∷ stack
+with_next None stack = stack
+
+-- so many signs are counted for the events, which keep their limit
+pub record Counted (most signs : ℕ) (events : List Event) : Type 0 where
+  pub counted : signs ≡ signs_after 0 events
+  pub within : WithinSigns most 0 events
+
+-- A machine that took the first n of the tokens.
+pub record Stands (m : Machine) (cs : List Class) (n : ℕ) : Type 0 where
+  pub leads : Leads n (take n cs) m.events.items (reverse m.stack.items)
+  pub depth : m.depth ≡ open_after 0 (take n cs)
+  pub brackets : WithinBrackets m.limits.brackets 0 (take n cs)
+  pub signs : Counted m.limits.signs m.signs m.events.items
+
+-- A machine that took none of the tokens, whichever they are.
+abbrev pub StandsFresh : Machine → Type 0
+StandsFresh m = (cs : List Class) → Stands m cs 0
+
+-- A machine whose next symbol, off its stack, is no name. Only where no row passes a limit are the signs counted.
+pub record Expanded (m : Machine) (next : Option Symbol) (cs : List Class) (n : ℕ) : Type 0 where
+  pub leads : Leads n (take n cs) m.events.items (with_next next (reverse m.stack.items))
+  pub signs : m.over ≡ false → Counted m.limits.signs m.signs m.events.items
+
+-- What taking a token does where this symbol asks for one.
+pub record Shifted (old new : Machine) (s : Symbol) (c : Class) (n : ℕ) : Type 0 where
+  pub fits : Fits s c
+  pub under : old.over ≡ false
+  pub depth : new.depth ≡ opened (bracket_of c) old.depth
+  pub within : old.depth ≤ old.limits.brackets → new.depth ≤ old.limits.brackets
+  pub events : new.events.items ≡ old.events.items ++ spelled s n
+  pub stack : new.stack.items ≡ old.stack.items
+  pub limits : new.limits ≡ old.limits
+  pub signs : new.signs ≡ old.signs

@@ -1,0 +1,54 @@
+//! Deriving: the classes of tokens to the events of their derivation, or the first wrong token.
+
+ghost use Rattle.std.specs.Prelude.{IfOk};
+ghost use Rattle.av_reader.specs.Derivation.{Derived};
+
+use super::machine::{Event, Limits, Machine, Stop};
+use av_tree::Class;
+use std::alloc::Global;
+
+/// Why nothing is derived, and the number of the token at fault; the number of tokens where more are
+/// needed.
+#[derive(Clone, Copy, Debug, Drop, PartialEq)]
+pub struct Refused {
+    pub stop: Stop,
+    pub at: usize,
+}
+
+/// The events that derive a file of tokens of these classes, within the limits.
+///
+/// # Errors
+///
+/// The number of the first wrong token, or want of memory, as for 2^32 tokens or more.
+pub fn derive(alloc: Global, classes: &[Class], limits: Limits) -> Result<Vec<Event>, Refused>
+    ensures { IfOk result (λ events. Derived limits classes.now events.items) }
+{
+    let Ok(count) = u32::try_from(classes.len()) else {
+        return Err(Refused {
+            stop: Stop::NoMemory,
+            at: 0,
+        });
+    };
+    let mut machine = match Machine::new(alloc, limits) {
+        Ok(machine) => machine,
+        Err(_) => return Err(Refused {
+            stop: Stop::NoMemory,
+            at: 0,
+        }),
+    };
+    for at in 0..count {
+        if let Err(stop) = machine.take(classes, at) {
+            return Err(Refused {
+                stop,
+                at: at as usize,
+            });
+        }
+    }
+    match machine.finish(classes, count) {
+        Ok(events) => Ok(events),
+        Err(stop) => Err(Refused {
+            stop,
+            at: classes.len(),
+        }),
+    }
+}
