@@ -1,0 +1,4 @@
+pub mod Sizes
+pub mod Insides
+pub mod Pairs
+pub mod Memories
