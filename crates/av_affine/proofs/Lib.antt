@@ -1,6 +1,9 @@
 pub mod Bounded
 pub mod Divisions
+pub mod ExprForms
+pub mod FormValues
 pub mod Found
 pub mod Indices
+pub mod Integers
 pub mod Listed
 pub mod Variants

@@ -1,5 +1,6 @@
 //! What holds of the divisions of expressions, for the proofs of callers. These functions do nothing.
 ghost use Rattle.av_affine.specs.Divisions.{CeilLaw, FloorLaw, RemainderLaw};
+ghost use Rattle.av_affine.specs.Forms.{FormValueLaw};
 
 /// The quotient times the divisor plus the remainder is the number; the remainder is from 0 to the divisor less one.
 pub fn remainder_completes()
@@ -14,4 +15,9 @@ pub fn floor_rounds_down()
 /// `ceildiv` gives the least whole number that is at least the fraction.
 pub fn ceil_rounds_up()
     ensures { CeilLaw }
+{}
+
+/// The linear form of an affine expression has the expression's value, whatever the parameters are.
+pub fn form_keeps_value()
+    ensures { FormValueLaw }
 {}

@@ -10,6 +10,7 @@ mod expression;
 mod held;
 mod laws;
 mod limits;
+mod linear;
 mod results;
 mod seq;
 #[cfg(test)]
@@ -19,8 +20,9 @@ mod values;
 pub use duplicate::{Duplicate, duplicate_all};
 pub use expression::{AffMap, AffSet, Expr, Leaf, SetRow};
 pub use held::Held;
-pub use laws::{ceil_rounds_up, floor_rounds_down, remainder_completes};
+pub use laws::{ceil_rounds_up, floor_rounds_down, form_keeps_value, remainder_completes};
 pub use limits::is_admissible;
+pub use linear::{DivKind, Linear, Opaque, Term};
 pub use results::{IndexRange, eval, holds};
 pub use seq::{Seq, set_in};
 
