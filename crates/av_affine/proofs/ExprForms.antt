@@ -1,17 +1,17 @@
 -- The form of an expression has its value.
-use Rattle.std.proofs.Common.{◌≡◌, ℕ, List, [], ◌∷◌, Bool, true, false, ◌||◌, IsFalse, ◌⊎◌, inl, inr, refl, sym, ap, ◌∙◌, subst, arith}
+use Rattle.std.proofs.Common.{◌≡◌, List, [], ◌∷◌, IsFalse, inl, inr, refl, sym, ap, ◌∙◌, arith}
 use Rattle.std.specs.Prelude.{ℤ, pos, negsuc, neg_ℤ, ◌+ℤ◌, ◌-ℤ◌, ◌*ℤ◌}
 use Rattle.std.proofs.lemmas.Int.{ints}
-use lib.IntN.{*ℤ-one, *ℤ_comm}
+use lib.IntN.{*ℤ_comm}
 use Rattle.av_affine.specs.declared.expression.Leaf.{Leaf}
 use Rattle.av_affine.specs.declared.expression.Expr.{Expr, Param, Const, Neg', Add', Sub', Mul', Mod', Floor', Ceil', end_of-Expr, more_of-Expr}
 use Rattle.av_affine.specs.declared.linear.DivKind.{DivKind}
 use Rattle.av_affine.specs.declared.linear.DivKind.TheVariants.{Mod, Floor, Ceil}
 use Rattle.av_affine.specs.declared.linear.Term.{Term}
-use Rattle.av_affine.specs.declared.linear.Linear.{Linear, Linear', Row_of-Opaque, end_of-Opaque, more_of-Opaque, items-the_row-Opaque, items_hidden-the_row-Opaque-0, roll-Linear, rolls-Linear'}
-use Rattle.av_affine.specs.declared.linear.Linear.TheBlock.{shape-the_row-Opaque-0, hidden-the_row-Opaque-0}
-use Rattle.av_affine.specs.declared.linear.Opaque.{Opaque, Opaque'}
-use Rattle.av_affine.specs.Values.{value_of, remainder, floor_quotient, ceil_quotient}
+use Rattle.av_affine.specs.declared.linear.Linear.{Row_of-Opaque, end_of-Opaque, more_of-Opaque, items-the_row-Opaque, items_hidden-the_row-Opaque-0, roll-Linear, rolls-Linear'}
+use Rattle.av_affine.specs.declared.linear.Linear.TheBlock.{hidden-the_row-Opaque-0}
+use Rattle.av_affine.specs.declared.linear.Opaque.{Opaque}
+use Rattle.av_affine.specs.Values.{value_of}
 use Rattle.av_affine.specs.Limits.{has_parameter, IsAffine, IsDivisor}
 use Rattle.av_affine.specs.Forms.{divide, terms_value, form_value, opaque_value, row_value, opaques_value, add_terms, add_opaques, scale_terms, scale_opaques, Parts, constant_parts, joined, scaled, product_by, division_of, divided, parts_of, linear_form, parts_value, FormValueLaw}
 use Rattle.av_affine.proofs.Integers.{sum-mul}

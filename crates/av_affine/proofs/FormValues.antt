@@ -1,10 +1,10 @@
 -- The value of a linear form is the value of its expression.
-use Rattle.std.proofs.Common.{◌≡◌, ℕ, ◌+◌, List, [], ◌∷◌, Bool, true, false, ◌&&◌, IsTrue, IsFalse, Decides, refl, sym, ap, ◌∙◌, subst, arith, cond}
-use Rattle.std.specs.Prelude.{ℤ, pos, negsuc, neg_ℤ, ◌+ℤ◌, ◌-ℤ◌, ◌*ℤ◌, ◌==◌}
+use Rattle.std.proofs.Common.{◌≡◌, List, [], ◌∷◌, Bool, true, false, ◌&&◌, refl, sym, ap, ◌∙◌, arith, cond}
+use Rattle.std.specs.Prelude.{ℤ, pos, ◌+ℤ◌, ◌*ℤ◌}
 use Rattle.std.specs.Ordering.{int_eq}
 use Rattle.std.proofs.lemmas.Bool.Decides.{Decides-int_eq, nat_tests}
 use Rattle.std.proofs.lemmas.Int.{ints}
-use lib.IntN.{*ℤ-one, *ℤ-zero}
+use lib.IntN.{*ℤ-zero}
 use Rattle.av_affine.specs.declared.expression.Leaf.{Leaf}
 use Rattle.av_affine.specs.declared.expression.Leaf.TheVariants.{Dim, Sym}
 use Rattle.av_affine.specs.declared.linear.DivKind.{DivKind}
@@ -12,15 +12,12 @@ use Rattle.av_affine.specs.declared.linear.DivKind.TheVariants.{Mod, Floor, Ceil
 use Rattle.av_affine.specs.declared.linear.Term.{Term}
 use Rattle.av_affine.specs.declared.linear.Linear.{Linear, Linear', Row_of-Opaque, end_of-Opaque, more_of-Opaque}
 use Rattle.av_affine.specs.declared.linear.Opaque.{Opaque, Opaque'}
-use Rattle.av_affine.specs.Forms.{divide, terms_value, form_value, opaque_value, row_value, opaques_value, same_leaf, same_kind, same_terms, same_form, same_opaque, same_row, same_division, is_before, term_unless_zero, opaque_unless_zero, factor_of, add_term, add_opaque, add_terms, add_opaques, scale_terms, scale_opaques}
+use Rattle.av_affine.specs.Forms.{divide, terms_value, form_value, opaque_value, row_value, opaques_value, same_leaf, same_kind, same_term, all_same, same_terms, same_form, same_opaque, same_row, same_division, is_before, term_unless_zero, opaque_unless_zero, factor_of, add_term, add_opaque, add_terms, add_opaques, scale_terms, scale_opaques}
+use Rattle.av_affine.proofs.Pairwise.{both_true}
 use Rattle.av_affine.proofs.Integers.{mul-sum, sum-mul, mul-mul}
 
 -- ---- tests
-pub both_true : (a b : Bool) → a && b ≡ true → (a ≡ true) × (b ≡ true)
-both_true true b h = (refl, h)
-both_true false b h = absurd (cc)
-
-int_eq-true : (x y : ℤ) → int_eq x y ≡ true → x ≡ y
+pub int_eq-true : (x y : ℤ) → int_eq x y ≡ true → x ≡ y
 int_eq-true x y h = (Decides-int_eq x y).0 h
 
 same_leaf-true : (x y : Leaf) → same_leaf x y ≡ true → x ≡ y
@@ -41,21 +38,21 @@ same_kind-true Ceil Floor h = absurd (cc)
 same_kind-true Ceil Ceil h = refl
 
 -- either side of a choice, by its test
-choose : {A : Type 0} (P : A → Type 0) (b : Bool) (x y : A) → (b ≡ true → P x) → (b ≡ false → P y) → P (cond b x y)
+pub choose : {A : Type 0} (P : A → Type 0) (b : Bool) (x y : A) → (b ≡ true → P x) → (b ≡ false → P y) → P (cond b x y)
 choose P true x y h k = h refl
 choose P false x y h k = k refl
 
 -- ---- equal forms have equal values
 same_terms-value : (at : Leaf → ℤ) (ts us : List Term) → same_terms ts us ≡ true → terms_value at ts ≡ terms_value at us
-unfolding same_terms terms_value
+unfolding all_same terms_value
 same_terms-value at [] [] h = refl
 same_terms-value at [] (u ∷ us) h = absurd (cc)
 same_terms-value at (t ∷ ts) [] h = absurd (cc)
 same_terms-value at (t ∷ ts) (u ∷ us) h =
-    let p = both_true (same_leaf t.leaf u.leaf) (int_eq t.factor u.factor && same_terms ts us) h in
-    let q = both_true (int_eq t.factor u.factor) (same_terms ts us) p.1 in
+    let q = both_true (same_leaf t.leaf u.leaf && int_eq t.factor u.factor) (all_same same_term ts us) h in
+    let p = both_true (same_leaf t.leaf u.leaf) (int_eq t.factor u.factor) q.0 in
     let l = same_leaf-true t.leaf u.leaf p.0 in
-    let f = int_eq-true t.factor u.factor q.0 in
+    let f = int_eq-true t.factor u.factor p.1 in
     ap (λ x. at x *ℤ t.factor +ℤ terms_value at ts) l ∙ ap (λ x. at u.leaf *ℤ x +ℤ terms_value at ts) f
     ∙ ap (λ x. at u.leaf *ℤ u.factor +ℤ x) (same_terms-value at ts us q.1)
 
@@ -72,13 +69,13 @@ mutual
 
   same_opaque-value : (at : Leaf → ℤ) (o p : Opaque) → same_opaque o p ≡ true → opaque_value at o ≡ opaque_value at p
   same_opaque-value at (Opaque' k l d f) (Opaque' j m e g) h =
-      let p = both_true (same_kind k j) (same_form l m && (int_eq d e && int_eq f g)) h in
-      let q = both_true (same_form l m) (int_eq d e && int_eq f g) p.1 in
-      let r = both_true (int_eq d e) (int_eq f g) q.1 in
+      let r = both_true (int_eq f g) (same_kind k j && (int_eq d e && same_form l m)) h in
+      let p = both_true (same_kind k j) (int_eq d e && same_form l m) r.1 in
+      let q = both_true (int_eq d e) (same_form l m) p.1 in
       ap (λ x. divide x (form_value at l) d *ℤ f) (same_kind-true k j p.0)
-      ∙ ap (λ x. divide j x d *ℤ f) (same_form-value at l m q.0)
-      ∙ ap (λ x. divide j (form_value at m) x *ℤ f) (int_eq-true d e r.0)
-      ∙ ap (λ x. divide j (form_value at m) e *ℤ x) (int_eq-true f g r.1)
+      ∙ ap (λ x. divide j x d *ℤ f) (same_form-value at l m q.1)
+      ∙ ap (λ x. divide j (form_value at m) x *ℤ f) (int_eq-true d e q.0)
+      ∙ ap (λ x. divide j (form_value at m) e *ℤ x) (int_eq-true f g r.0)
 
   same_row-value : (at : Leaf → ℤ) {m n : _} (row : Row_of-Opaque m) (other : Row_of-Opaque n) → same_row row other ≡ true → row_value at row ≡ row_value at other
   same_row-value at end_of-Opaque end_of-Opaque h = refl
@@ -163,10 +160,10 @@ worth-value at (Opaque' k l d f) = refl
 same_division-worth : (at : Leaf → ℤ) (o p : Opaque) → same_division o p ≡ true → worth at o ≡ worth at p
 unfolding same_division worth
 same_division-worth at (Opaque' k l d f) (Opaque' j m e g) h =
-    let p = both_true (same_kind k j) (same_form l m && int_eq d e) h in
-    let q = both_true (same_form l m) (int_eq d e) p.1 in
-    ap (λ x. divide x (form_value at l) d) (same_kind-true k j p.0) ∙ ap (λ x. divide j x d) (same_form-value at l m q.0)
-    ∙ ap (λ x. divide j (form_value at m) x) (int_eq-true d e q.1)
+    let p = both_true (same_kind k j) (int_eq d e && same_form l m) h in
+    let q = both_true (int_eq d e) (same_form l m) p.1 in
+    ap (λ x. divide x (form_value at l) d) (same_kind-true k j p.0) ∙ ap (λ x. divide j x d) (same_form-value at l m q.1)
+    ∙ ap (λ x. divide j (form_value at m) x) (int_eq-true d e q.0)
 
 opaque_unless_zero-value : (at : Leaf → ℤ) (o : Opaque) (f : ℤ) (os : List Opaque) → opaques_value at (opaque_unless_zero o f os) ≡ worth at o *ℤ f +ℤ opaques_value at os
 unfolding opaques_value opaque_value worth

@@ -1,5 +1,5 @@
 -- Linear forms: what they are worth, when they are equal, and the form of an expression.
-use Rattle.std.specs.Prelude.{◌≡◌, ℕ, ℤ, pos, negsuc, ◌+ℤ◌, ◌*ℤ◌, List, [], ◌∷◌, Bool, true, false, ◌&&◌, ◌==◌, nat_lt, if◌then◌else◌}
+use Rattle.std.specs.Prelude.{◌≡◌, ℤ, pos, negsuc, ◌+ℤ◌, ◌*ℤ◌, List, [], ◌∷◌, Bool, true, false, ◌&&◌, ◌==◌, nat_lt, if◌then◌else◌}
 use Rattle.std.specs.Ordering.{int_eq}
 use Rattle.av_affine.specs.declared.expression.Leaf.{Leaf}
 use Rattle.av_affine.specs.declared.expression.Leaf.TheVariants.{Dim, Sym}
@@ -61,11 +61,18 @@ same_kind Ceil Mod = false
 same_kind Ceil Floor = false
 same_kind Ceil Ceil = true
 
-unfoldable pub same_terms : List Term → List Term → Bool
-same_terms [] [] = true
-same_terms [] (u ∷ us) = false
-same_terms (t ∷ ts) [] = false
-same_terms (t ∷ ts) (u ∷ us) = same_leaf t.leaf u.leaf && (int_eq t.factor u.factor && same_terms ts us)
+-- two lists of one length whose elements pass the test, place by place
+unfoldable pub all_same : {A : Type 0} → (A → A → Bool) → List A → List A → Bool
+all_same test [] [] = true
+all_same test [] (y ∷ ys) = false
+all_same test (x ∷ xs) [] = false
+all_same test (x ∷ xs) (y ∷ ys) = test x y && all_same test xs ys
+
+abbrev pub same_term : Term → Term → Bool
+same_term t u = same_leaf t.leaf u.leaf && int_eq t.factor u.factor
+
+abbrev pub same_terms : List Term → List Term → Bool
+same_terms ts us = all_same same_term ts us
 
 -- the same terms, opaque terms and constants, in the same order
 unfoldable mutual
@@ -74,7 +81,7 @@ unfoldable mutual
 
   pub same_opaque : Opaque → Opaque → Bool
   same_opaque (Opaque' k l d f) (Opaque' j m e g) =
-      same_kind k j && (same_form l m && (int_eq d e && int_eq f g))
+      int_eq f g && (same_kind k j && (int_eq d e && same_form l m))
 
   pub same_row : {m n : _} → Row_of-Opaque m → Row_of-Opaque n → Bool
   same_row end_of-Opaque end_of-Opaque = true
@@ -84,7 +91,7 @@ unfoldable mutual
 
 -- equal but for their factors
 unfoldable pub same_division : Opaque → Opaque → Bool
-same_division (Opaque' k l d f) (Opaque' j m e g) = same_kind k j && (same_form l m && int_eq d e)
+same_division (Opaque' k l d f) (Opaque' j m e g) = same_kind k j && (int_eq d e && same_form l m)
 
 -- ---- sums and multiples of forms
 
