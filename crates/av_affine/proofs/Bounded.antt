@@ -55,7 +55,7 @@ pub kept : (x : ℤ) → unsigned_abs x ≤ 2 ^ 110 → to_z w128 (of_z w128 x) 
 kept x h = to_z-of_z w128 x (fits_signed_from_abs w128 x (omega arith))
 
 -- ---- expressions without parameters
-or_false : (a b : Bool) → IsFalse (a || b) → IsFalse a × IsFalse b
+pub or_false : (a b : Bool) → IsFalse (a || b) → IsFalse a × IsFalse b
 or_false true b h = (h, absurd (grind arith))
 or_false false b h = (grind arith, h)
 

@@ -1,6 +1,17 @@
 pub mod Bounded
 pub mod Divisions
+pub mod ExprForms
+pub mod FormParts
+pub mod FormValues
 pub mod Found
 pub mod Indices
+pub mod Integers
 pub mod Listed
+pub mod Opened
+pub mod Pairwise
+pub mod Placed
+pub mod Scaled
+pub mod Sizes
+pub mod Spellings
+pub mod TermPlaces
 pub mod Variants

@@ -5,13 +5,20 @@
 #![tactic(auto)]
 
 mod arithmetic;
+mod combine;
 mod duplicate;
 mod expression;
+mod forms;
 mod held;
 mod laws;
 mod limits;
+mod linear;
+mod making;
+mod rest;
 mod results;
+mod sameness;
 mod seq;
+mod sums;
 #[cfg(test)]
 mod tests;
 mod values;
@@ -19,8 +26,13 @@ mod values;
 pub use duplicate::{Duplicate, duplicate_all};
 pub use expression::{AffMap, AffSet, Expr, Leaf, SetRow};
 pub use held::Held;
-pub use laws::{ceil_rounds_up, floor_rounds_down, remainder_completes};
+pub use laws::{
+    ceil_rounds_up, floor_rounds_down, form_is_bounded, form_keeps_value, remainder_completes,
+    spelling_keeps_value,
+};
 pub use limits::is_admissible;
+pub use linear::{DivKind, Linear, Opaque, Term};
+pub use making::linear_of;
 pub use results::{IndexRange, eval, holds};
 pub use seq::{Seq, set_in};
 

@@ -1,4 +1,5 @@
 ghost use Rattle.std.specs.Prelude.{◌≡◌, [], ◌∷◌, ◌++◌, ◌<◌, ◌≤◌, length, take, slice_get, slice_index_or, slice_set, IfOk, MatchOption, OnOk, OnErr, OnSome, IsTrue, ◌↔◌};
+ghost use Rattle.std.specs.List.{insert, remove};
 ghost use Rattle.std.specs.Option.{option_copied};
 ghost use Rattle.std.specs.Cmp.Lexicographic.{pointwise, lists_per};
 
@@ -133,6 +134,31 @@ impl<T> Seq<T> {
         ensures { self.new ≡ slice_set self.old at item }
     {
         self.list[at] = item;
+    }
+
+    /// Puts an element at a place; the later ones move up. Where memory lacks, the list stays as it was.
+    ///
+    /// # Errors
+    ///
+    /// Want of memory.
+    pub fn insert(&mut self, at: usize, item: T) -> Result<(), AllocError>
+    where
+        T: Drop,
+        requires { at ≤ length self.old }
+        ensures ok { OnOk result (self.new ≡ insert self.old at item) }
+        ensures err { OnErr result (self.new ≡ self.old) }
+    {
+        self.list.insert(at, item)?;
+        Ok(())
+    }
+
+    /// Takes out the element at a place; the later ones move down.
+    pub fn remove(&mut self, at: usize) -> T
+        requires { at < length self.old }
+        ensures value { result ≡ slice_index_or self.old at result }
+        ensures rest { self.new ≡ remove self.old at }
+    {
+        self.list.remove(at)
     }
 
     /// The allocator that the list takes its memory from.

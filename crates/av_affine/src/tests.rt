@@ -149,3 +149,32 @@ fn holds_at_zero_and_above(rt: HostRuntime) -> Result<(), Fail> {
     assert!(rt; !row_holds(alloc, dim(0), true, &[5])?);
     Ok(())
 }
+
+#[test]
+fn forms_are_made_part_by_part(rt: HostRuntime) -> Result<(), Fail> {
+    let alloc = rt.alloc();
+    let e = mixed(alloc)?;
+    assert!(rt; is_admissible(&e));
+    let form = linear_of(alloc, &e)?;
+    assert_eq!(rt; form.terms.len(), 0);
+    assert_eq!(rt; form.opaque.len(), 1);
+    assert_eq!(rt; form.constant, 0);
+    let floor = form.opaque.as_slice();
+    assert_eq!(rt; floor.len(), 1);
+    assert_eq!(rt; floor[0].kind, DivKind::Floor);
+    assert_eq!(rt; floor[0].by, 3);
+    assert_eq!(rt; floor[0].inner.terms.len(), 2);
+    Ok(())
+}
+
+#[test]
+fn different_divisions_stay_apart(rt: HostRuntime) -> Result<(), Fail> {
+    let alloc = rt.alloc();
+    let left = both(alloc, dim(0), Sign::Mod, Expr::Const(2))?;
+    let right = both(alloc, dim(0), Sign::Mod, Expr::Const(3))?;
+    let e = both(alloc, left, Sign::Add, right)?;
+    assert!(rt; is_admissible(&e));
+    let form = linear_of(alloc, &e)?;
+    assert_eq!(rt; form.opaque.len(), 2);
+    Ok(())
+}
