@@ -13,5 +13,6 @@ pub mod Placed
 pub mod Scaled
 pub mod Sizes
 pub mod Spellings
+pub mod Spelt
 pub mod TermPlaces
 pub mod Variants

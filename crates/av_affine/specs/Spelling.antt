@@ -53,3 +53,8 @@ abbrev pub SpellingLaw : Type 0
 SpellingLaw =
     ((l : Linear) (at : Leaf → ℤ) → value_of at (spelled l) ≡ form_value at l)
     × ((e : Expr) → IsAffine e → (at : Leaf → ℤ) → value_of at (spelled (linear_form e)) ≡ value_of at e)
+
+-- the same over a list
+unfoldable pub plus_opaques : Option Expr → List Opaque → Option Expr
+plus_opaques s [] = s
+plus_opaques s (o ∷ os) = plus_opaques (plus s (spelled_opaque o)) os

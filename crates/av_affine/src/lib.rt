@@ -18,6 +18,7 @@ mod rest;
 mod results;
 mod sameness;
 mod seq;
+mod spelling;
 mod sums;
 #[cfg(test)]
 mod tests;
@@ -35,6 +36,7 @@ pub use linear::{DivKind, Linear, Opaque, Term};
 pub use making::linear_of;
 pub use results::{IndexRange, eval, holds};
 pub use seq::{Seq, set_in};
+pub use spelling::simplify;
 
 /// A number or place of an operation, loop, function, value, leaf, argument or block, or a count of
 /// parameters or rows.

@@ -178,3 +178,13 @@ fn different_divisions_stay_apart(rt: HostRuntime) -> Result<(), Fail> {
     assert_eq!(rt; form.opaque.len(), 2);
     Ok(())
 }
+
+#[test]
+fn simplified_has_the_value(rt: HostRuntime) -> Result<(), Fail> {
+    let alloc = rt.alloc();
+    let more = both(alloc, mixed(alloc)?, Sign::Add, Expr::Const(4))?;
+    assert!(rt; is_admissible(&more));
+    let simple = simplify(alloc, &more)?;
+    assert_eq!(rt; evaluated(alloc, simple, &[-7, 2])?, Outcome::Value(0));
+    Ok(())
+}
