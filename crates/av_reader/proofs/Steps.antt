@@ -22,8 +22,8 @@ pub leads-row : {n : ℕ} {taken : List Class} {events : List Event} {x : Name} 
 leads-row {n} {taken} {events} r e l = record { whole = λ cs es d. rw append_assoc (l.whole cs (event.Row r n ∷ es) (by_row r e d)) }
 
 one_token : (n : ℕ) (s : Symbol) (c : Class) (ss : List Symbol) (cs : List Class) (es : List Event) → Fits s c → Derives (suc n) ss cs es → Derives n (s ∷ ss) (c ∷ cs) (spelled s n ++ es)
-one_token n (symbol.Sign s) c ss cs es e d = subst (λ (k : Class). Derives n (symbol.Sign s ∷ ss) (k ∷ cs) es) (sym e) (by_sign d)
-one_token n (symbol.Word s) c ss cs es e d = subst (λ (k : Class). Derives n (symbol.Word s ∷ ss) (k ∷ cs) es) (sym e) (by_word d)
+one_token n (symbol.Sign s) c ss cs es e d = by_sign e d
+one_token n (symbol.Word s) c ss cs es e d = by_word e d
 one_token n (symbol.Token s) c ss cs es e d = by_token e d
 one_token n (symbol.Rows s) c ss cs es e d = absurd e
 

@@ -25,10 +25,10 @@ use Rattle.av_reader.specs.declared.machine.Limits.{Limits}
 -- is an event; a name gives what the symbols of one of its rows give, and the row is an event.
 pub data Derives : ℕ → List Symbol → List Class → List Event → Type 0 where
   nothing_left : {n : ℕ} → Derives n [] [] []
-  by_sign : {n : ℕ} {s : Sign} {ss : List Symbol} {cs : List Class} {es : List Event}
-      → Derives (suc n) ss cs es → Derives n (symbol.Sign s ∷ ss) (class.Sign s ∷ cs) es
-  by_word : {n : ℕ} {w : Keyword} {ss : List Symbol} {cs : List Class} {es : List Event}
-      → Derives (suc n) ss cs es → Derives n (symbol.Word w ∷ ss) (class.Word w ∷ cs) es
+  by_sign : {n : ℕ} {s : Sign} {c : Class} {ss : List Symbol} {cs : List Class} {es : List Event} → c ≡ class.Sign s
+      → Derives (suc n) ss cs es → Derives n (symbol.Sign s ∷ ss) (c ∷ cs) es
+  by_word : {n : ℕ} {w : Keyword} {c : Class} {ss : List Symbol} {cs : List Class} {es : List Event} → c ≡ class.Word w
+      → Derives (suc n) ss cs es → Derives n (symbol.Word w ∷ ss) (c ∷ cs) es
   by_token : {n : ℕ} {t : Test} {c : Class} {ss : List Symbol} {cs : List Class} {es : List Event}
       → IsTrue (fits_of t c) → Derives (suc n) ss cs es → Derives n (symbol.Token t ∷ ss) (c ∷ cs) (event.Token n ∷ es)
   by_row : {n : ℕ} {x : Name} {ss : List Symbol} {cs : List Class} {es : List Event} (r : Rule) → name_of r ≡ x

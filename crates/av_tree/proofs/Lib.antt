@@ -1,1 +1,3 @@
 pub mod Lighter
+pub mod Sets
+pub mod Choice

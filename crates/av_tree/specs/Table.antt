@@ -1,5 +1,6 @@
 -- The table as a whole, and the weights by which expanding names comes to an end.
 use Rattle.std.specs.Prelude.{ℕ, ◌+◌, Bool, true, false, ◌&&◌, ◌||◌, not, List, [], ◌∷◌, nat_lt, if◌then◌else◌}
+use Rattle.av_tree.specs.declared.class.Class.{Class}
 use Rattle.av_tree.specs.declared.table.Symbol.{Symbol}
 use Rattle.av_tree.specs.declared.table.Symbol.TheVariants as symbol
 use Rattle.av_tree.specs.declared.table.Name.{Name}
@@ -52,6 +53,19 @@ name_of (rule.Value r) = values.name_of r
 name_of (rule.Arith r) = arith.name_of r
 name_of (rule.Affine r) = affine.name_of r
 name_of (rule.Subscript r) = subscripts.name_of r
+
+-- the row of a name that can begin with a token of this class, or any of its rows where none can
+abbrev pub choice_of : Name → Class → Rule
+choice_of (name.File n) c = file.choice_of n c
+choice_of (name.Function n) c = functions.choice_of n c
+choice_of (name.Region n) c = regions.choice_of n c
+choice_of (name.Type n) c = types.choice_of n c
+choice_of (name.Attribute n) c = attributes.choice_of n c
+choice_of (name.Map n) c = maps.choice_of n c
+choice_of (name.Value n) c = values.choice_of n c
+choice_of (name.Arith n) c = arith.choice_of n c
+choice_of (name.Affine n) c = affine.choice_of n c
+choice_of (name.Subscript n) c = subscripts.choice_of n c
 
 -- whether a name derives no tokens too
 abbrev pub is_nullable : Name → Bool

@@ -7,7 +7,7 @@
 ghost use Rattle.std.specs.Prelude.{◌≡◌, IsTrue};
 ghost use Rattle.av_tree.specs.Classes.{fits_of};
 ghost use Rattle.av_tree.specs.Signs.{begins_expression as begins_expression_of, counts_sign as counts_sign_of};
-ghost use Rattle.av_tree.specs.Table.{symbols_of, name_of, is_lighter};
+ghost use Rattle.av_tree.specs.Table.{symbols_of, name_of, choice_of, is_lighter};
 
 mod affine;
 mod arith;
@@ -122,7 +122,8 @@ fn symbols_in_group(rule: Rule) -> &'static [Symbol]
 
 /// The row of a name that can begin with a token of this class, or any of its rows where none can.
 pub fn choose(name: Name, class: Class) -> Rule
-    ensures { name_of result ≡ name }
+    ensures name { name_of result ≡ name }
+    ensures choice { result ≡ choice_of name class }
 {
     match name {
         Name::File(name) => file::choose(name, class),

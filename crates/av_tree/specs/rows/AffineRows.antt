@@ -17,6 +17,11 @@ use Rattle.av_tree.specs.declared.table.subscripts.SubscriptName.TheVariants as 
 use Rattle.av_lex.specs.declared.token.Sign.TheVariants as sign
 use Rattle.av_tree.specs.declared.class.Keyword.TheVariants as key
 use Rattle.av_tree.specs.declared.table.Test.TheVariants as test
+use Rattle.av_tree.specs.declared.class.Class.{Class}
+use Rattle.av_tree.specs.declared.class.Class.TheVariants as class
+use Rattle.av_tree.specs.declared.table.Rule.{Rule}
+use Rattle.av_tree.specs.declared.table.Rule.TheVariants as rule
+use Rattle.av_tree.specs.declared.table.affine.AffineName.{AffineName}
 
 abbrev pub symbols_of : AffineRule → List Symbol
 symbols_of affine_rule.AffineFor = (symbol.Word key.AffineFor) ∷ (symbol.Token test.ValId) ∷ (symbol.Sign sign.Equal) ∷ (symbol.Rows (name.Affine affine_name.LowerBound)) ∷ (symbol.Word key.To) ∷ (symbol.Rows (name.Affine affine_name.UpperBound)) ∷ (symbol.Rows (name.Affine affine_name.OptionalStep)) ∷ (symbol.Rows (name.Affine affine_name.OptionalIterArgs)) ∷ (symbol.Rows (name.Region regions_name.Region)) ∷ (symbol.Rows (name.Attribute attributes_name.OptionalDictionary)) ∷ []
@@ -65,3 +70,25 @@ name_of affine_rule.MapWritten = name.Affine affine_name.MapUse
 name_of affine_rule.DimensionOperands = name.Affine affine_name.MapOperands
 name_of affine_rule.NoSymbolOperands = name.Affine affine_name.SymbolOperands
 name_of affine_rule.WrittenSymbolOperands = name.Affine affine_name.SymbolOperands
+
+-- the row of a name that can begin with a token of this class, or any of its rows where none can
+abbrev pub choice_of : AffineName → Class → Rule
+choice_of affine_name.LowerBound (class.Word key.Max) = rule.Affine affine_rule.GreatestOf
+choice_of affine_name.LowerBound _ = rule.Affine affine_rule.PlainLowerBound
+choice_of affine_name.UpperBound (class.Word key.Min) = rule.Affine affine_rule.LeastOf
+choice_of affine_name.UpperBound _ = rule.Affine affine_rule.PlainUpperBound
+choice_of affine_name.Bound class.ValId = rule.Affine affine_rule.ValueBound
+choice_of affine_name.Bound (class.Word key.AffineMap) = rule.Affine affine_rule.MapBound
+choice_of affine_name.Bound _ = rule.Affine affine_rule.NumberBound
+choice_of affine_name.OptionalStep (class.Word key.Step) = rule.Affine affine_rule.WrittenStep
+choice_of affine_name.OptionalStep _ = rule.Affine affine_rule.NoStep
+choice_of affine_name.OptionalIterArgs (class.Word key.IterArgs) = rule.Affine affine_rule.WrittenIterArgs
+choice_of affine_name.OptionalIterArgs _ = rule.Affine affine_rule.NoIterArgs
+choice_of affine_name.Carried class.ValId = rule.Affine affine_rule.FirstCarried
+choice_of affine_name.Carried _ = rule.Affine affine_rule.NoCarried
+choice_of affine_name.MoreCarried (class.Sign sign.Comma) = rule.Affine affine_rule.NextCarried
+choice_of affine_name.MoreCarried _ = rule.Affine affine_rule.NoMoreCarried
+choice_of affine_name.MapUse _ = rule.Affine affine_rule.MapWritten
+choice_of affine_name.MapOperands _ = rule.Affine affine_rule.DimensionOperands
+choice_of affine_name.SymbolOperands (class.Sign sign.OpenSquare) = rule.Affine affine_rule.WrittenSymbolOperands
+choice_of affine_name.SymbolOperands _ = rule.Affine affine_rule.NoSymbolOperands

@@ -13,6 +13,11 @@ use Rattle.av_tree.specs.declared.table.arith.ArithName.TheVariants as arith_nam
 use Rattle.av_lex.specs.declared.token.Sign.TheVariants as sign
 use Rattle.av_tree.specs.declared.class.Keyword.TheVariants as key
 use Rattle.av_tree.specs.declared.table.Test.TheVariants as test
+use Rattle.av_tree.specs.declared.class.Class.{Class}
+use Rattle.av_tree.specs.declared.class.Class.TheVariants as class
+use Rattle.av_tree.specs.declared.table.Rule.{Rule}
+use Rattle.av_tree.specs.declared.table.Rule.TheVariants as rule
+use Rattle.av_tree.specs.declared.table.arith.ArithName.{ArithName}
 
 abbrev pub symbols_of : ArithRule → List Symbol
 symbols_of arith_rule.ArithConstant = (symbol.Word key.ArithConstant) ∷ (symbol.Rows (name.Arith arith_name.Constant)) ∷ []
@@ -31,3 +36,11 @@ name_of arith_rule.NoOverflow = name.Arith arith_name.OptionalOverflow
 name_of arith_rule.WrittenOverflow = name.Arith arith_name.OptionalOverflow
 name_of arith_rule.NoMoreOverflowFlags = name.Arith arith_name.MoreOverflowFlags
 name_of arith_rule.NextOverflowFlag = name.Arith arith_name.MoreOverflowFlags
+
+-- the row of a name that can begin with a token of this class, or any of its rows where none can
+abbrev pub choice_of : ArithName → Class → Rule
+choice_of arith_name.Constant _ = rule.Arith arith_rule.NumberConstant
+choice_of arith_name.OptionalOverflow (class.Word key.Overflow) = rule.Arith arith_rule.WrittenOverflow
+choice_of arith_name.OptionalOverflow _ = rule.Arith arith_rule.NoOverflow
+choice_of arith_name.MoreOverflowFlags (class.Sign sign.Comma) = rule.Arith arith_rule.NextOverflowFlag
+choice_of arith_name.MoreOverflowFlags _ = rule.Arith arith_rule.NoMoreOverflowFlags

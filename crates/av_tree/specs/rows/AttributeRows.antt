@@ -12,6 +12,11 @@ use Rattle.av_tree.specs.declared.table.values.ValueName.TheVariants as values_n
 use Rattle.av_lex.specs.declared.token.Sign.TheVariants as sign
 use Rattle.av_tree.specs.declared.class.Keyword.TheVariants as key
 use Rattle.av_tree.specs.declared.table.Test.TheVariants as test
+use Rattle.av_tree.specs.declared.class.Class.{Class}
+use Rattle.av_tree.specs.declared.class.Class.TheVariants as class
+use Rattle.av_tree.specs.declared.table.Rule.{Rule}
+use Rattle.av_tree.specs.declared.table.Rule.TheVariants as rule
+use Rattle.av_tree.specs.declared.table.attributes.AttributeName.{AttributeName}
 
 abbrev pub symbols_of : AttributeRule → List Symbol
 symbols_of attributes_rule.NumberAttribute = (symbol.Rows (name.Value values_name.Integer)) ∷ (symbol.Rows (name.Attribute attributes_name.NumberType)) ∷ []
@@ -46,3 +51,21 @@ name_of attributes_rule.NoDictionary = name.Attribute attributes_name.OptionalDi
 name_of attributes_rule.DictionaryHere = name.Attribute attributes_name.OptionalDictionary
 name_of attributes_rule.NoAttributesPart = name.Attribute attributes_name.OptionalAttributes
 name_of attributes_rule.AttributesPart = name.Attribute attributes_name.OptionalAttributes
+
+-- the row of a name that can begin with a token of this class, or any of its rows where none can
+abbrev pub choice_of : AttributeName → Class → Rule
+choice_of attributes_name.Attribute _ = rule.Attribute attributes_rule.NumberAttribute
+choice_of attributes_name.NumberType (class.Sign sign.Colon) = rule.Attribute attributes_rule.WrittenNumberType
+choice_of attributes_name.NumberType _ = rule.Attribute attributes_rule.NoNumberType
+choice_of attributes_name.Dictionary _ = rule.Attribute attributes_rule.WrittenDictionary
+choice_of attributes_name.Entries (class.Sign sign.CloseCurly) = rule.Attribute attributes_rule.NoEntries
+choice_of attributes_name.Entries _ = rule.Attribute attributes_rule.FirstEntry
+choice_of attributes_name.MoreEntries (class.Sign sign.Comma) = rule.Attribute attributes_rule.NextEntry
+choice_of attributes_name.MoreEntries _ = rule.Attribute attributes_rule.NoMoreEntries
+choice_of attributes_name.Entry _ = rule.Attribute attributes_rule.PlainEntry
+choice_of attributes_name.EntryValue (class.Sign sign.Equal) = rule.Attribute attributes_rule.WrittenEntry
+choice_of attributes_name.EntryValue _ = rule.Attribute attributes_rule.UnitEntry
+choice_of attributes_name.OptionalDictionary (class.Sign sign.OpenCurly) = rule.Attribute attributes_rule.DictionaryHere
+choice_of attributes_name.OptionalDictionary _ = rule.Attribute attributes_rule.NoDictionary
+choice_of attributes_name.OptionalAttributes (class.Word key.Attributes) = rule.Attribute attributes_rule.AttributesPart
+choice_of attributes_name.OptionalAttributes _ = rule.Attribute attributes_rule.NoAttributesPart

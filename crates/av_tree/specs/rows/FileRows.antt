@@ -9,6 +9,12 @@ use Rattle.av_tree.specs.declared.table.file.FileRule.TheVariants as file_rule
 use Rattle.av_tree.specs.declared.table.file.FileName.TheVariants as file_name
 use Rattle.av_tree.specs.declared.table.functions.FunctionName.TheVariants as functions_name
 use Rattle.av_tree.specs.declared.table.values.ValueName.TheVariants as values_name
+use Rattle.av_tree.specs.declared.class.Class.{Class}
+use Rattle.av_tree.specs.declared.class.Class.TheVariants as class
+use Rattle.av_tree.specs.declared.table.Rule.{Rule}
+use Rattle.av_tree.specs.declared.table.Rule.TheVariants as rule
+use Rattle.av_tree.specs.declared.table.file.FileName.{FileName}
+use Rattle.av_tree.specs.declared.class.Keyword.TheVariants as key
 
 abbrev pub symbols_of : FileRule → List Symbol
 symbols_of file_rule.WholeFile = (symbol.Rows (name.File file_name.Aliases)) ∷ (symbol.Rows (name.File file_name.Content)) ∷ []
@@ -35,3 +41,17 @@ name_of file_rule.NoMoreFunctions = name.File file_name.MoreFunctions
 name_of file_rule.NextNamedFunction = name.File file_name.MoreFunctions
 name_of file_rule.NextFunction = name.File file_name.MoreFunctions
 name_of file_rule.WrittenFunction = name.File file_name.Function
+
+-- the row of a name that can begin with a token of this class, or any of its rows where none can
+abbrev pub choice_of : FileName → Class → Rule
+choice_of file_name.File _ = rule.File file_rule.WholeFile
+choice_of file_name.Aliases _ = rule.File file_rule.NoMoreAliases
+choice_of file_name.Content class.End = rule.File file_rule.NoContent
+choice_of file_name.Content class.ValId = rule.File file_rule.NamedContent
+choice_of file_name.Content _ = rule.File file_rule.PlainContent
+choice_of file_name.TopLevel (class.Word key.FuncFunc) = rule.File file_rule.FirstFunction
+choice_of file_name.TopLevel _ = rule.File file_rule.OnlyModule
+choice_of file_name.MoreFunctions class.ValId = rule.File file_rule.NextNamedFunction
+choice_of file_name.MoreFunctions (class.Word key.FuncFunc) = rule.File file_rule.NextFunction
+choice_of file_name.MoreFunctions _ = rule.File file_rule.NoMoreFunctions
+choice_of file_name.Function _ = rule.File file_rule.WrittenFunction

@@ -13,6 +13,13 @@ use Rattle.av_tree.specs.declared.table.attributes.AttributeName.TheVariants as 
 use Rattle.av_lex.specs.declared.token.Sign.TheVariants as sign
 use Rattle.av_tree.specs.declared.class.Keyword.TheVariants as key
 use Rattle.av_tree.specs.declared.table.Test.TheVariants as test
+use Rattle.av_tree.specs.declared.class.Class.{Class}
+use Rattle.av_tree.specs.declared.class.Class.TheVariants as class
+use Rattle.av_tree.specs.declared.table.Rule.{Rule}
+use Rattle.av_tree.specs.declared.table.Rule.TheVariants as rule
+use Rattle.av_tree.specs.declared.table.functions.FunctionName.{FunctionName}
+use Rattle.av_tree.specs.declared.table.arith.ArithRule.TheVariants as arith_rule
+use Rattle.av_tree.specs.declared.table.affine.AffineRule.TheVariants as affine_rule
 
 abbrev pub symbols_of : FunctionRule → List Symbol
 symbols_of functions_rule.BuiltinModule = (symbol.Word key.Module) ∷ (symbol.Rows (name.Function functions_name.OptionalSymbol)) ∷ (symbol.Rows (name.Attribute attributes_name.OptionalAttributes)) ∷ (symbol.Rows (name.Region regions_name.Region)) ∷ []
@@ -43,3 +50,24 @@ name_of functions_rule.NextFunctionArgument = name.Function functions_name.MoreF
 name_of functions_rule.ArgumentOfFunction = name.Function functions_name.FunctionArgument
 name_of functions_rule.ModuleForm = name.Function functions_name.Form
 name_of functions_rule.FunctionForm = name.Function functions_name.Form
+
+-- the row of a name that can begin with a token of this class, or any of its rows where none can
+abbrev pub choice_of : FunctionName → Class → Rule
+choice_of functions_name.Module _ = rule.Function functions_rule.BuiltinModule
+choice_of functions_name.OptionalSymbol class.SymId = rule.Function functions_rule.WrittenSymbol
+choice_of functions_name.OptionalSymbol _ = rule.Function functions_rule.NoSymbol
+choice_of functions_name.NamedFunction _ = rule.Function functions_rule.FuncFunc
+choice_of functions_name.OptionalVisibility (class.Word key.Visibility) = rule.Function functions_rule.WrittenVisibility
+choice_of functions_name.OptionalVisibility _ = rule.Function functions_rule.NoVisibility
+choice_of functions_name.FunctionArguments class.ValId = rule.Function functions_rule.FirstFunctionArgument
+choice_of functions_name.FunctionArguments _ = rule.Function functions_rule.NoFunctionArguments
+choice_of functions_name.MoreFunctionArguments (class.Sign sign.Comma) = rule.Function functions_rule.NextFunctionArgument
+choice_of functions_name.MoreFunctionArguments _ = rule.Function functions_rule.NoMoreFunctionArguments
+choice_of functions_name.FunctionArgument _ = rule.Function functions_rule.ArgumentOfFunction
+choice_of functions_name.Form (class.Word key.Module) = rule.Function functions_rule.ModuleForm
+choice_of functions_name.Form (class.Word key.FuncFunc) = rule.Function functions_rule.FunctionForm
+choice_of functions_name.Form (class.Word key.ArithConstant) = rule.Arith arith_rule.ArithConstant
+choice_of functions_name.Form (class.Word key.Overflowing) = rule.Arith arith_rule.ArithOverflowing
+choice_of functions_name.Form (class.Word key.AffineFor) = rule.Affine affine_rule.AffineFor
+choice_of functions_name.Form (class.Word key.AffineLoad) = rule.Affine affine_rule.AffineLoad
+choice_of functions_name.Form _ = rule.Affine affine_rule.AffineStore

@@ -10,6 +10,11 @@ use Rattle.av_tree.specs.declared.table.maps.MapName.TheVariants as maps_name
 use Rattle.av_lex.specs.declared.token.Sign.TheVariants as sign
 use Rattle.av_tree.specs.declared.class.Keyword.TheVariants as key
 use Rattle.av_tree.specs.declared.table.Test.TheVariants as test
+use Rattle.av_tree.specs.declared.class.Class.{Class}
+use Rattle.av_tree.specs.declared.class.Class.TheVariants as class
+use Rattle.av_tree.specs.declared.table.Rule.{Rule}
+use Rattle.av_tree.specs.declared.table.Rule.TheVariants as rule
+use Rattle.av_tree.specs.declared.table.maps.MapName.{MapName}
 
 abbrev pub symbols_of : MapRule → List Symbol
 symbols_of maps_rule.WrittenMap = (symbol.Word key.AffineMap) ∷ (symbol.Sign sign.OpenAngle) ∷ (symbol.Rows (name.Map maps_name.Parameters)) ∷ (symbol.Sign sign.Arrow) ∷ (symbol.Sign sign.OpenRound) ∷ (symbol.Rows (name.Map maps_name.Expressions)) ∷ (symbol.Sign sign.CloseRound) ∷ (symbol.Sign sign.CloseAngle) ∷ []
@@ -70,3 +75,37 @@ name_of maps_rule.NegatedBase = name.Map maps_name.Negated
 name_of maps_rule.ParameterName = name.Map maps_name.Base
 name_of maps_rule.DivisionName = name.Map maps_name.Base
 name_of maps_rule.InBrackets = name.Map maps_name.Base
+
+-- the row of a name that can begin with a token of this class, or any of its rows where none can
+abbrev pub choice_of : MapName → Class → Rule
+choice_of maps_name.AffineMap _ = rule.Map maps_rule.WrittenMap
+choice_of maps_name.Parameters _ = rule.Map maps_rule.DimensionNames
+choice_of maps_name.SymbolNames (class.Sign sign.OpenSquare) = rule.Map maps_rule.WrittenSymbolNames
+choice_of maps_name.SymbolNames _ = rule.Map maps_rule.NoSymbolNames
+choice_of maps_name.Words (class.Sign sign.CloseRound) = rule.Map maps_rule.NoWords
+choice_of maps_name.Words (class.Sign sign.CloseSquare) = rule.Map maps_rule.NoWords
+choice_of maps_name.Words _ = rule.Map maps_rule.FirstWord
+choice_of maps_name.MoreWords (class.Sign sign.Comma) = rule.Map maps_rule.NextWord
+choice_of maps_name.MoreWords _ = rule.Map maps_rule.NoMoreWords
+choice_of maps_name.Expressions (class.Sign sign.CloseRound) = rule.Map maps_rule.NoExpressions
+choice_of maps_name.Expressions _ = rule.Map maps_rule.FirstExpression
+choice_of maps_name.MoreExpressions (class.Sign sign.Comma) = rule.Map maps_rule.NextExpression
+choice_of maps_name.MoreExpressions _ = rule.Map maps_rule.NoMoreExpressions
+choice_of maps_name.Expression _ = rule.Map maps_rule.WholeExpression
+choice_of maps_name.Sum (class.Sign sign.Plus) = rule.Map maps_rule.PlusTerm
+choice_of maps_name.Sum (class.Sign sign.Minus) = rule.Map maps_rule.MinusTerm
+choice_of maps_name.Sum _ = rule.Map maps_rule.NoMoreTerms
+choice_of maps_name.Term _ = rule.Map maps_rule.WholeTerm
+choice_of maps_name.Product (class.Sign sign.Star) = rule.Map maps_rule.TimesFactor
+choice_of maps_name.Product (class.Word key.Division) = rule.Map maps_rule.DivisionFactor
+choice_of maps_name.Product _ = rule.Map maps_rule.NoMoreFactors
+choice_of maps_name.Factor class.Zero = rule.Map maps_rule.NumberFactor
+choice_of maps_name.Factor class.Positive = rule.Map maps_rule.NumberFactor
+choice_of maps_name.Factor (class.Sign sign.Minus) = rule.Map maps_rule.MinusFactor
+choice_of maps_name.Factor _ = rule.Map maps_rule.PlainFactor
+choice_of maps_name.Negated class.Zero = rule.Map maps_rule.NegativeNumber
+choice_of maps_name.Negated class.Positive = rule.Map maps_rule.NegativeNumber
+choice_of maps_name.Negated _ = rule.Map maps_rule.NegatedBase
+choice_of maps_name.Base (class.Word key.Division) = rule.Map maps_rule.DivisionName
+choice_of maps_name.Base (class.Sign sign.OpenRound) = rule.Map maps_rule.InBrackets
+choice_of maps_name.Base _ = rule.Map maps_rule.ParameterName

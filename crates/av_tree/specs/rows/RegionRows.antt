@@ -12,6 +12,12 @@ use Rattle.av_tree.specs.declared.table.types.TypeName.TheVariants as types_name
 use Rattle.av_tree.specs.declared.table.values.ValueName.TheVariants as values_name
 use Rattle.av_lex.specs.declared.token.Sign.TheVariants as sign
 use Rattle.av_tree.specs.declared.table.Test.TheVariants as test
+use Rattle.av_tree.specs.declared.class.Class.{Class}
+use Rattle.av_tree.specs.declared.class.Class.TheVariants as class
+use Rattle.av_tree.specs.declared.table.Rule.{Rule}
+use Rattle.av_tree.specs.declared.table.Rule.TheVariants as rule
+use Rattle.av_tree.specs.declared.table.regions.RegionName.{RegionName}
+use Rattle.av_tree.specs.declared.class.Keyword.TheVariants as key
 
 abbrev pub symbols_of : RegionRule → List Symbol
 symbols_of regions_rule.NoMoreOperations = []
@@ -36,3 +42,16 @@ name_of regions_rule.TerminatorLast = name.Region regions_name.AfterTerminator
 name_of regions_rule.TerminatorThenOperation = name.Region regions_name.AfterTerminator
 name_of regions_rule.ValuesAndTypes = name.Region regions_name.TypedValues
 name_of regions_rule.NamedRegion = name.Region regions_name.Region
+
+-- the row of a name that can begin with a token of this class, or any of its rows where none can
+abbrev pub choice_of : RegionName → Class → Rule
+choice_of regions_name.Operations (class.Sign sign.CloseCurly) = rule.Region regions_rule.NoMoreOperations
+choice_of regions_name.Operations class.ValId = rule.Region regions_rule.WithResults
+choice_of regions_name.Operations _ = rule.Region regions_rule.WithoutResults
+choice_of regions_name.Operation (class.Word key.Terminator) = rule.Region regions_rule.TerminatorOperation
+choice_of regions_name.Operation _ = rule.Region regions_rule.PlainOperation
+choice_of regions_name.AfterTerminator class.ValId = rule.Region regions_rule.TerminatorWithValues
+choice_of regions_name.AfterTerminator (class.Sign sign.CloseCurly) = rule.Region regions_rule.TerminatorLast
+choice_of regions_name.AfterTerminator _ = rule.Region regions_rule.TerminatorThenOperation
+choice_of regions_name.TypedValues _ = rule.Region regions_rule.ValuesAndTypes
+choice_of regions_name.Region _ = rule.Region regions_rule.NamedRegion

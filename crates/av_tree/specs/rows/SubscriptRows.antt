@@ -11,6 +11,11 @@ use Rattle.av_tree.specs.declared.table.subscripts.SubscriptName.TheVariants as 
 use Rattle.av_lex.specs.declared.token.Sign.TheVariants as sign
 use Rattle.av_tree.specs.declared.class.Keyword.TheVariants as key
 use Rattle.av_tree.specs.declared.table.Test.TheVariants as test
+use Rattle.av_tree.specs.declared.class.Class.{Class}
+use Rattle.av_tree.specs.declared.class.Class.TheVariants as class
+use Rattle.av_tree.specs.declared.table.Rule.{Rule}
+use Rattle.av_tree.specs.declared.table.Rule.TheVariants as rule
+use Rattle.av_tree.specs.declared.table.subscripts.SubscriptName.{SubscriptName}
 
 abbrev pub symbols_of : SubscriptRule → List Symbol
 symbols_of subscripts_rule.NoSubscripts = []
@@ -55,3 +60,28 @@ name_of subscripts_rule.NegatedSubscriptBase = name.Subscript subscripts_name.Ne
 name_of subscripts_rule.DimensionValue = name.Subscript subscripts_name.SubscriptBase
 name_of subscripts_rule.SymbolValue = name.Subscript subscripts_name.SubscriptBase
 name_of subscripts_rule.SubscriptInBrackets = name.Subscript subscripts_name.SubscriptBase
+
+-- the row of a name that can begin with a token of this class, or any of its rows where none can
+abbrev pub choice_of : SubscriptName → Class → Rule
+choice_of subscripts_name.Subscripts (class.Sign sign.CloseSquare) = rule.Subscript subscripts_rule.NoSubscripts
+choice_of subscripts_name.Subscripts _ = rule.Subscript subscripts_rule.FirstSubscript
+choice_of subscripts_name.MoreSubscripts (class.Sign sign.Comma) = rule.Subscript subscripts_rule.NextSubscript
+choice_of subscripts_name.MoreSubscripts _ = rule.Subscript subscripts_rule.NoMoreSubscripts
+choice_of subscripts_name.Subscript _ = rule.Subscript subscripts_rule.WholeSubscript
+choice_of subscripts_name.SubscriptSum (class.Sign sign.Plus) = rule.Subscript subscripts_rule.PlusSubscriptTerm
+choice_of subscripts_name.SubscriptSum (class.Sign sign.Minus) = rule.Subscript subscripts_rule.MinusSubscriptTerm
+choice_of subscripts_name.SubscriptSum _ = rule.Subscript subscripts_rule.NoMoreSubscriptTerms
+choice_of subscripts_name.SubscriptTerm _ = rule.Subscript subscripts_rule.WholeSubscriptTerm
+choice_of subscripts_name.SubscriptProduct (class.Sign sign.Star) = rule.Subscript subscripts_rule.TimesSubscriptFactor
+choice_of subscripts_name.SubscriptProduct (class.Word key.Division) = rule.Subscript subscripts_rule.DivisionSubscriptFactor
+choice_of subscripts_name.SubscriptProduct _ = rule.Subscript subscripts_rule.NoMoreSubscriptFactors
+choice_of subscripts_name.SubscriptFactor class.Zero = rule.Subscript subscripts_rule.NumberSubscriptFactor
+choice_of subscripts_name.SubscriptFactor class.Positive = rule.Subscript subscripts_rule.NumberSubscriptFactor
+choice_of subscripts_name.SubscriptFactor (class.Sign sign.Minus) = rule.Subscript subscripts_rule.MinusSubscriptFactor
+choice_of subscripts_name.SubscriptFactor _ = rule.Subscript subscripts_rule.PlainSubscriptFactor
+choice_of subscripts_name.NegatedSubscript class.Zero = rule.Subscript subscripts_rule.NegativeSubscriptNumber
+choice_of subscripts_name.NegatedSubscript class.Positive = rule.Subscript subscripts_rule.NegativeSubscriptNumber
+choice_of subscripts_name.NegatedSubscript _ = rule.Subscript subscripts_rule.NegatedSubscriptBase
+choice_of subscripts_name.SubscriptBase (class.Word key.Symbol) = rule.Subscript subscripts_rule.SymbolValue
+choice_of subscripts_name.SubscriptBase (class.Sign sign.OpenRound) = rule.Subscript subscripts_rule.SubscriptInBrackets
+choice_of subscripts_name.SubscriptBase _ = rule.Subscript subscripts_rule.DimensionValue

@@ -10,6 +10,11 @@ use Rattle.av_tree.specs.declared.table.types.TypeName.TheVariants as types_name
 use Rattle.av_lex.specs.declared.token.Sign.TheVariants as sign
 use Rattle.av_tree.specs.declared.class.Keyword.TheVariants as key
 use Rattle.av_tree.specs.declared.table.Test.TheVariants as test
+use Rattle.av_tree.specs.declared.class.Class.{Class}
+use Rattle.av_tree.specs.declared.class.Class.TheVariants as class
+use Rattle.av_tree.specs.declared.table.Rule.{Rule}
+use Rattle.av_tree.specs.declared.table.Rule.TheVariants as rule
+use Rattle.av_tree.specs.declared.table.types.TypeName.{TypeName}
 
 abbrev pub symbols_of : TypeRule → List Symbol
 symbols_of types_rule.ScalarType = (symbol.Token test.Scalar) ∷ []
@@ -42,3 +47,20 @@ name_of types_rule.ResultTypeList = name.Type types_name.ResultTypes
 name_of types_rule.NoResultTypes = name.Type types_name.OptionalResultTypes
 name_of types_rule.WrittenResultTypes = name.Type types_name.OptionalResultTypes
 name_of types_rule.NoLayout = name.Type types_name.Layout
+
+-- the row of a name that can begin with a token of this class, or any of its rows where none can
+abbrev pub choice_of : TypeName → Class → Rule
+choice_of types_name.Type (class.Word key.MemRef) = rule.Type types_rule.BufferType
+choice_of types_name.Type _ = rule.Type types_rule.ScalarType
+choice_of types_name.MemRef _ = rule.Type types_rule.MemRefType
+choice_of types_name.Sizes class.DimX = rule.Type types_rule.NextSize
+choice_of types_name.Sizes _ = rule.Type types_rule.NoMoreSizes
+choice_of types_name.Types (class.Sign sign.CloseRound) = rule.Type types_rule.NoTypes
+choice_of types_name.Types _ = rule.Type types_rule.FirstType
+choice_of types_name.MoreTypes (class.Sign sign.Comma) = rule.Type types_rule.NextType
+choice_of types_name.MoreTypes _ = rule.Type types_rule.NoMoreTypes
+choice_of types_name.ResultTypes (class.Sign sign.OpenRound) = rule.Type types_rule.ResultTypeList
+choice_of types_name.ResultTypes _ = rule.Type types_rule.OneResultType
+choice_of types_name.OptionalResultTypes (class.Sign sign.Arrow) = rule.Type types_rule.WrittenResultTypes
+choice_of types_name.OptionalResultTypes _ = rule.Type types_rule.NoResultTypes
+choice_of types_name.Layout _ = rule.Type types_rule.NoLayout

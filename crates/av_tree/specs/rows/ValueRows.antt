@@ -9,6 +9,11 @@ use Rattle.av_tree.specs.declared.table.values.ValueRule.TheVariants as values_r
 use Rattle.av_tree.specs.declared.table.values.ValueName.TheVariants as values_name
 use Rattle.av_lex.specs.declared.token.Sign.TheVariants as sign
 use Rattle.av_tree.specs.declared.table.Test.TheVariants as test
+use Rattle.av_tree.specs.declared.class.Class.{Class}
+use Rattle.av_tree.specs.declared.class.Class.TheVariants as class
+use Rattle.av_tree.specs.declared.table.Rule.{Rule}
+use Rattle.av_tree.specs.declared.table.Rule.TheVariants as rule
+use Rattle.av_tree.specs.declared.table.values.ValueName.{ValueName}
 
 abbrev pub symbols_of : ValueRule → List Symbol
 symbols_of values_rule.NamedValue = (symbol.Token test.ValId) ∷ (symbol.Rows (name.Value values_name.ResultNumber)) ∷ []
@@ -41,3 +46,20 @@ name_of values_rule.NoMoreResults = name.Value values_name.MoreResults
 name_of values_rule.NextResult = name.Value values_name.MoreResults
 name_of values_rule.OneResult = name.Value values_name.ResultCount
 name_of values_rule.CountedResults = name.Value values_name.ResultCount
+
+-- the row of a name that can begin with a token of this class, or any of its rows where none can
+abbrev pub choice_of : ValueName → Class → Rule
+choice_of values_name.Value _ = rule.Value values_rule.NamedValue
+choice_of values_name.ResultNumber class.HashDigits = rule.Value values_rule.WrittenResultNumber
+choice_of values_name.ResultNumber _ = rule.Value values_rule.NoResultNumber
+choice_of values_name.Values class.ValId = rule.Value values_rule.FirstValue
+choice_of values_name.Values _ = rule.Value values_rule.NoValues
+choice_of values_name.MoreValues (class.Sign sign.Comma) = rule.Value values_rule.NextValue
+choice_of values_name.MoreValues _ = rule.Value values_rule.NoMoreValues
+choice_of values_name.Integer (class.Sign sign.Minus) = rule.Value values_rule.NegativeInteger
+choice_of values_name.Integer _ = rule.Value values_rule.PlainInteger
+choice_of values_name.Results _ = rule.Value values_rule.ResultNames
+choice_of values_name.MoreResults (class.Sign sign.Comma) = rule.Value values_rule.NextResult
+choice_of values_name.MoreResults _ = rule.Value values_rule.NoMoreResults
+choice_of values_name.ResultCount (class.Sign sign.Colon) = rule.Value values_rule.CountedResults
+choice_of values_name.ResultCount _ = rule.Value values_rule.OneResult

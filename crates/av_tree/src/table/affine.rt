@@ -1,7 +1,7 @@
 //! The rows of operations of the Affine dialect.
 
 ghost use Rattle.std.specs.Prelude.{◌≡◌};
-ghost use Rattle.av_tree.specs.rows.AffineRows.{symbols_of};
+ghost use Rattle.av_tree.specs.rows.AffineRows.{symbols_of, choice_of};
 ghost use Rattle.av_tree.specs.Table.{name_of};
 
 use super::{
@@ -180,7 +180,8 @@ pub(super) fn symbols(rule: AffineRule) -> &'static [Symbol]
 }
 
 pub(super) fn choose(name: AffineName, class: Class) -> Rule
-    ensures { name_of result ≡ Name.Affine name }
+    ensures name { name_of result ≡ Name.Affine name }
+    ensures choice { result ≡ choice_of name class }
 {
     match name {
         AffineName::LowerBound => match class {

@@ -1,7 +1,7 @@
 //! The rows of operations of the Arith dialect.
 
 ghost use Rattle.std.specs.Prelude.{◌≡◌};
-ghost use Rattle.av_tree.specs.rows.ArithRows.{symbols_of};
+ghost use Rattle.av_tree.specs.rows.ArithRows.{symbols_of, choice_of};
 ghost use Rattle.av_tree.specs.Table.{name_of};
 
 use super::{Class, Keyword, Name, Rule, Symbol, Test, TypeName, ValueName};
@@ -74,7 +74,8 @@ pub(super) fn symbols(rule: ArithRule) -> &'static [Symbol]
 }
 
 pub(super) fn choose(name: ArithName, class: Class) -> Rule
-    ensures { name_of result ≡ Name.Arith name }
+    ensures name { name_of result ≡ Name.Arith name }
+    ensures choice { result ≡ choice_of name class }
 {
     match name {
         ArithName::Constant => Rule::Arith(ArithRule::NumberConstant),

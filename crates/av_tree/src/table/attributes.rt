@@ -1,7 +1,7 @@
 //! The rows of dictionaries and attributes.
 
 ghost use Rattle.std.specs.Prelude.{◌≡◌};
-ghost use Rattle.av_tree.specs.rows.AttributeRows.{symbols_of};
+ghost use Rattle.av_tree.specs.rows.AttributeRows.{symbols_of, choice_of};
 ghost use Rattle.av_tree.specs.Table.{name_of};
 
 use super::{Class, Keyword, Name, Rule, Symbol, Test, TypeName, ValueName};
@@ -107,7 +107,8 @@ pub(super) fn symbols(rule: AttributeRule) -> &'static [Symbol]
 }
 
 pub(super) fn choose(name: AttributeName, class: Class) -> Rule
-    ensures { name_of result ≡ Name.Attribute name }
+    ensures name { name_of result ≡ Name.Attribute name }
+    ensures choice { result ≡ choice_of name class }
 {
     match name {
         AttributeName::Attribute => Rule::Attribute(AttributeRule::NumberAttribute),

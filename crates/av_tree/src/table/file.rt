@@ -1,7 +1,7 @@
 //! The rows of files.
 
 ghost use Rattle.std.specs.Prelude.{◌≡◌};
-ghost use Rattle.av_tree.specs.rows.FileRows.{symbols_of};
+ghost use Rattle.av_tree.specs.rows.FileRows.{symbols_of, choice_of};
 ghost use Rattle.av_tree.specs.Table.{name_of};
 
 use super::{Class, FunctionName, Keyword, Name, Rule, Symbol, ValueName};
@@ -79,7 +79,8 @@ pub(super) fn symbols(rule: FileRule) -> &'static [Symbol]
 }
 
 pub(super) fn choose(name: FileName, class: Class) -> Rule
-    ensures { name_of result ≡ Name.File name }
+    ensures name { name_of result ≡ Name.File name }
+    ensures choice { result ≡ choice_of name class }
 {
     match name {
         FileName::File => Rule::File(FileRule::WholeFile),

@@ -1,7 +1,7 @@
 //! The rows of modules and functions.
 
 ghost use Rattle.std.specs.Prelude.{◌≡◌};
-ghost use Rattle.av_tree.specs.rows.FunctionRows.{symbols_of};
+ghost use Rattle.av_tree.specs.rows.FunctionRows.{symbols_of, choice_of};
 ghost use Rattle.av_tree.specs.Table.{name_of};
 
 use super::{
@@ -102,7 +102,8 @@ pub(super) fn symbols(rule: FunctionRule) -> &'static [Symbol]
 }
 
 pub(super) fn choose(name: FunctionName, class: Class) -> Rule
-    ensures { name_of result ≡ Name.Function name }
+    ensures name { name_of result ≡ Name.Function name }
+    ensures choice { result ≡ choice_of name class }
 {
     match name {
         FunctionName::Module => Rule::Function(FunctionRule::BuiltinModule),

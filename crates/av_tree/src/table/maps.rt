@@ -1,7 +1,7 @@
 //! The rows of maps and their expressions.
 
 ghost use Rattle.std.specs.Prelude.{◌≡◌};
-ghost use Rattle.av_tree.specs.rows.MapRows.{symbols_of};
+ghost use Rattle.av_tree.specs.rows.MapRows.{symbols_of, choice_of};
 ghost use Rattle.av_tree.specs.Table.{name_of};
 
 use super::{Class, Keyword, Name, Rule, Symbol, Test};
@@ -185,7 +185,8 @@ pub(super) fn symbols(rule: MapRule) -> &'static [Symbol]
 }
 
 pub(super) fn choose(name: MapName, class: Class) -> Rule
-    ensures { name_of result ≡ Name.Map name }
+    ensures name { name_of result ≡ Name.Map name }
+    ensures choice { result ≡ choice_of name class }
 {
     match name {
         MapName::AffineMap => Rule::Map(MapRule::WrittenMap),

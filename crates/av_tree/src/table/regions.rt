@@ -1,7 +1,7 @@
 //! The rows of operations in regions.
 
 ghost use Rattle.std.specs.Prelude.{◌≡◌};
-ghost use Rattle.av_tree.specs.rows.RegionRows.{symbols_of};
+ghost use Rattle.av_tree.specs.rows.RegionRows.{symbols_of, choice_of};
 ghost use Rattle.av_tree.specs.Table.{name_of};
 
 use super::{Class, FunctionName, Keyword, Name, Rule, Symbol, Test, TypeName, ValueName};
@@ -82,7 +82,8 @@ pub(super) fn symbols(rule: RegionRule) -> &'static [Symbol]
 }
 
 pub(super) fn choose(name: RegionName, class: Class) -> Rule
-    ensures { name_of result ≡ Name.Region name }
+    ensures name { name_of result ≡ Name.Region name }
+    ensures choice { result ≡ choice_of name class }
 {
     match name {
         RegionName::Operations => match class {

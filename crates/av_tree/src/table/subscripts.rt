@@ -1,7 +1,7 @@
 //! The rows of the subscripts of affine loads and stores.
 
 ghost use Rattle.std.specs.Prelude.{◌≡◌};
-ghost use Rattle.av_tree.specs.rows.SubscriptRows.{symbols_of};
+ghost use Rattle.av_tree.specs.rows.SubscriptRows.{symbols_of, choice_of};
 ghost use Rattle.av_tree.specs.Table.{name_of};
 
 use super::{Class, Keyword, Name, Rule, Symbol, Test, ValueName};
@@ -140,7 +140,8 @@ pub(super) fn symbols(rule: SubscriptRule) -> &'static [Symbol]
 }
 
 pub(super) fn choose(name: SubscriptName, class: Class) -> Rule
-    ensures { name_of result ≡ Name.Subscript name }
+    ensures name { name_of result ≡ Name.Subscript name }
+    ensures choice { result ≡ choice_of name class }
 {
     match name {
         SubscriptName::Subscripts => match class {

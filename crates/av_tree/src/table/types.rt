@@ -1,7 +1,7 @@
 //! The rows of types.
 
 ghost use Rattle.std.specs.Prelude.{◌≡◌};
-ghost use Rattle.av_tree.specs.rows.TypeRows.{symbols_of};
+ghost use Rattle.av_tree.specs.rows.TypeRows.{symbols_of, choice_of};
 ghost use Rattle.av_tree.specs.Table.{name_of};
 
 use super::{Class, Keyword, Name, Rule, Symbol, Test};
@@ -99,7 +99,8 @@ pub(super) fn symbols(rule: TypeRule) -> &'static [Symbol]
 }
 
 pub(super) fn choose(name: TypeName, class: Class) -> Rule
-    ensures { name_of result ≡ Name.Type name }
+    ensures name { name_of result ≡ Name.Type name }
+    ensures choice { result ≡ choice_of name class }
 {
     match name {
         TypeName::Type => match class {

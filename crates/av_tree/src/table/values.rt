@@ -1,7 +1,7 @@
 //! The rows of values, numbers and results.
 
 ghost use Rattle.std.specs.Prelude.{◌≡◌};
-ghost use Rattle.av_tree.specs.rows.ValueRows.{symbols_of};
+ghost use Rattle.av_tree.specs.rows.ValueRows.{symbols_of, choice_of};
 ghost use Rattle.av_tree.specs.Table.{name_of};
 
 use super::{Class, Name, Rule, Symbol, Test};
@@ -95,7 +95,8 @@ pub(super) fn symbols(rule: ValueRule) -> &'static [Symbol]
 }
 
 pub(super) fn choose(name: ValueName, class: Class) -> Rule
-    ensures { name_of result ≡ Name.Value name }
+    ensures name { name_of result ≡ Name.Value name }
+    ensures choice { result ≡ choice_of name class }
 {
     match name {
         ValueName::Value => Rule::Value(ValueRule::NamedValue),

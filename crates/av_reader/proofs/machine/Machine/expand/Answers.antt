@@ -15,7 +15,7 @@ loop-symbol-preserved c =
     let popped : old.stack.items ≡ c.pop.new.self.items ++ symbol.Rows c.in-Rows.name ∷ [] = rw c.in-Rows.is at c.in-Some.ensures.items in
     let pushed : new.stack.items ≡ c.pop.new.self.items ++ reverse (symbols_of c.choose-rule.result) = cc (e.stack, c.in_ok-push_row-in-Rows.ensures, ap reverse c.symbols.ensures.value) in
     record {
-      leads = stack-row _ _ _ _ _ _ popped c.choose-rule.ensures pushed e.events kept.leads;
+      leads = stack-row _ _ _ _ _ _ popped c.choose-rule.ensures.name pushed e.events kept.leads;
       signs = λ under. let k = kept.signs (e.under under) in
           rw (e.limits, e.events) (counted-row new.signs c.args.at c.choose-rule.result k (e.counted under) (e.signs under (counted-bound k)));
       limits = e.limits ∙ kept.limits;
