@@ -1,11 +1,11 @@
 -- Arguments in memory, one after the other.
-use Rattle.std.proofs.Common.{◌≡◌, ℕ, ◌+◌, List, [], ◌∷◌, ◌++◌, length, map, arith, ap, sym, ◌∙◌, refl, append_assoc, length-append}
+use Rattle.std.proofs.Common.{◌≡◌, ℕ, ◌+◌, List, [], ◌∷◌, ◌++◌, length, map, arith, ap, sym, ◌∙◌, refl, append_assoc}
 use Rattle.std.specs.List.{range_with_len}
 use Rattle.std.proofs.lemmas.List.{map-id, length_push}
 use Rattle.std.proofs.lemmas.List.FromFn.{map-range_with_len_more, fill_by_all}
 use Rattle.av_ir.specs.declared.run.Buffer.{Buffer}
 use Rattle.av_ir.specs.declared.run.Arg.{Arg}
-use Rattle.av_ir.specs.declared.run.Arg.TheVariants.{Word, Buf}
+use Rattle.av_ir.specs.declared.run.Arg.TheVariants.{Buf}
 use Rattle.av_ir.specs.Memory.{buffers_of, words_of, buffer_at, no_buffer}
 
 one_place : (n : ℕ) → range_with_len 0 (n + 1) ≡ range_with_len 0 n ++ n ∷ []

@@ -1,5 +1,5 @@
 -- The memory of a run, and which of its buffers each argument stands for.
-use Rattle.std.specs.Prelude.{◌≡◌, ℕ, List, [], ◌∷◌, map, length, slice_index_or}
+use Rattle.std.specs.Prelude.{ℕ, List, [], ◌∷◌, map, length, slice_index_or}
 use Rattle.std.specs.List.{range_with_len}
 use Rattle.av_ir.specs.declared.run.Buffer.{Buffer}
 use Rattle.av_ir.specs.declared.run.Arg.{Arg}

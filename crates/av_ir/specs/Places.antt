@@ -1,5 +1,5 @@
 -- The elements of a buffer: how many there are, and where each one stands.
-use Rattle.std.specs.Prelude.{◌≡◌, ℕ, ◌^◌, ◌≤◌, ℤ, pos, negsuc, Bool, true, false, ◌&&◌, nat_lt, nat_le, if◌then◌else◌, unsigned_abs, List, [], ◌∷◌, map, Option, Some, None}
+use Rattle.std.specs.Prelude.{ℕ, ◌^◌, ℤ, pos, negsuc, Bool, true, false, ◌&&◌, nat_lt, nat_le, if◌then◌else◌, unsigned_abs, List, [], ◌∷◌, map, Option, Some, None}
 use Rattle.av_shapes.specs.Shape.{product}
 use Rattle.av_shapes.specs.Places.{place}
 use Rattle.av_ir.specs.declared.ty.Ty.{Ty}

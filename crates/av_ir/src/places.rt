@@ -9,21 +9,16 @@ pub const MAX_ELEMENTS: u64 = 1 << 26;
 /// The number of patterns that a buffer of a memref type with these sizes keeps, if it is at most
 /// `MAX_ELEMENTS`. It takes no memory.
 ///
-/// Sizes whose product passes 64 bits have no elements where one of them is 0.
+/// Sizes whose product would pass 64 bits have no elements where one of them is 0: a product that is
+/// held at the greatest number stays there, or is 0 again.
 pub fn cells(_ty: &Ty, sizes: &[u64]) -> Option<u64>
     ensures { result ≡ cells_of _ty.now sizes.now }
 {
-    if sizes.contains(&0) {
-        return Some(0);
-    }
-    let mut all = 1;
+    let mut all = 1u64;
     for size in sizes {
-        all = size.saturating_mul(all);
-        if all > MAX_ELEMENTS {
-            return None;
-        }
+        all = all.saturating_mul(*size);
     }
-    Some(all)
+    if all <= MAX_ELEMENTS { Some(all) } else { None }
 }
 
 fn inside(size: u64, at: i64) -> bool

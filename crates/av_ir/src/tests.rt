@@ -1,5 +1,5 @@
 use super::*;
-use av_affine::{No, Seq, Text};
+use av_affine::{Seq, Text};
 use av_bits::Width;
 use std::alloc::{AllocError, Global};
 use std::test::Fail;
@@ -29,8 +29,8 @@ fn taker(alloc: Global, name: &str) -> Result<Func, AllocError> {
     values.push(memref(alloc, &[Extent::Dyn])?)?;
     values.push(Ty::Scalar(Elem::Index))?;
     let mut args = Seq::new(alloc);
-    for place in 0..3 {
-        args.push(ValueId(place as No))?;
+    for place in 0u64..3 {
+        args.push(ValueId(place))?;
     }
     let ops = Seq::new(alloc);
     Ok(Func {

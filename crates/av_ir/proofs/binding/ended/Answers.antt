@@ -1,7 +1,5 @@
 use Rattle.std.proofs.Common.{◌≡◌, ap, sym, ◌∙◌, arith, length}
 use Rattle.std.specs.List.{range_with_len}
-use Rattle.av_ir.specs.declared.types.Ended.{Ended}
-use Rattle.av_ir.specs.declared.run.Buffer.{Buffer}
 use Rattle.av_ir.proofs.Memories.{all-in_order}
 use Rattle.av_ir.proofs.binding.ended.Goals as goal
 

@@ -1,4 +1,4 @@
-use Rattle.std.proofs.Common.{arith, map, ◌∙◌, ◌≡◌}
+use Rattle.std.proofs.Common.{arith, ◌∙◌}
 use Rattle.std.specs.List.{range_with_len}
 use Rattle.std.proofs.lemmas.List.{map-id}
 use Rattle.std.proofs.lemmas.List.FromFn.{fill_by_all}

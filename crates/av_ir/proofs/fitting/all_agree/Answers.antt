@@ -1,5 +1,4 @@
 use Rattle.std.proofs.Common.{arith}
-use Rattle.std.proofs.lemmas.List.{drop_more}
 use Rattle.av_ir.specs.Values.{Agrees}
 use Rattle.av_ir.proofs.Pairs.{in_pairs}
 use Rattle.av_ir.proofs.fitting.all_agree.Goals as goal

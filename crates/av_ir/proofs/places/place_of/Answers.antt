@@ -1,8 +1,7 @@
 use Rattle.std.specs.Prelude.{unsigned_abs, map, pos}
-use Rattle.std.proofs.Common.{sym, ap, ◌∙◌, arith, ◌≡◌, true, refl, get_or}
-use Rattle.av_ir.specs.Places.{are_inside}
+use Rattle.std.proofs.Common.{sym, ap, ◌∙◌, arith, ◌≡◌, refl, get_or}
 use Rattle.av_shapes.proofs.PlaceLemmas.{nothing_read}
-use Rattle.av_ir.proofs.Insides.{inside-within, one_more, found_place, no_place, subscript_kept}
+use Rattle.av_ir.proofs.Insides.{inside-within, one_more, found_place, subscript_kept}
 use Rattle.av_ir.proofs.places.place_of.Goals as goal
 
 pub loop-dimension-init : goal.loop-dimension-init
