@@ -26,14 +26,7 @@ use Rattle.std.proofs.Common.{eq-eqb}
 use Rattle.av_tree.specs.declared.table.Name.TheVariants as name
 use Rattle.av_tree.specs.declared.table.file.FileName.TheVariants as file_name
 use Rattle.av_tree.proofs.Lighter.{lighter}
-use Rattle.av_tree.proofs.Sets.{class_number, all_classes, rule_number, all_rules, first_of, follow_of}
-
--- whether a class is among those of a number's bits
-unfoldable pub has : ℕ → Class → Bool
-has set c = nat_eq ((set / 2 ^ class_number c) % 2) 1
-
-unfoldable pub is_same_class : Class → Class → Bool
-is_same_class a b = nat_eq (class_number a) (class_number b)
+use Rattle.av_tree.specs.Sets.{class_number, all_classes, rule_number, all_rules, first_of, follow_of, has, is_same_class}
 
 unfoldable pub is_same_rule : Rule → Rule → Bool
 is_same_rule a b = nat_eq (rule_number a) (rule_number b)

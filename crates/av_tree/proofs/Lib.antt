@@ -1,3 +1,3 @@
 pub mod Lighter
-pub mod Sets
 pub mod Choice
+pub mod Depth

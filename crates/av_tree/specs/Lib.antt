@@ -1,4 +1,6 @@
 pub mod Classes
+pub mod Needs
+pub mod Sets
 pub mod Signs
 pub mod Table
 pub mod rows

@@ -6,6 +6,7 @@
 
 ghost use Rattle.std.specs.Prelude.{◌≡◌, IsTrue};
 ghost use Rattle.av_tree.specs.Classes.{fits_of};
+ghost use Rattle.av_tree.specs.Needs.{need_of};
 ghost use Rattle.av_tree.specs.Signs.{begins_expression as begins_expression_of, counts_sign as counts_sign_of};
 ghost use Rattle.av_tree.specs.Table.{symbols_of, name_of, choice_of, is_lighter};
 
@@ -163,7 +164,9 @@ pub fn fits(test: Test, class: Class) -> bool
 }
 
 /// The least number of further brackets that are open at once in whatever a row derives.
-pub fn need(rule: Rule) -> u32 {
+pub fn need(rule: Rule) -> u32
+    ensures { result ≡ need_of rule }
+{
     match rule {
         Rule::File(rule) => file::need(rule),
         Rule::Function(rule) => functions::need(rule),

@@ -2,6 +2,7 @@
 
 ghost use Rattle.std.specs.Prelude.{◌≡◌};
 ghost use Rattle.av_tree.specs.rows.AffineRows.{symbols_of, choice_of};
+ghost use Rattle.av_tree.specs.Needs.{need_of};
 ghost use Rattle.av_tree.specs.Table.{name_of};
 
 use super::{
@@ -223,7 +224,9 @@ pub(super) fn choose(name: AffineName, class: Class) -> Rule
 }
 
 /// The least number of further brackets that are open at once in whatever a row derives.
-pub(super) fn need(rule: AffineRule) -> u32 {
+pub(super) fn need(rule: AffineRule) -> u32
+    ensures { result ≡ need_of (Rule.Affine rule) }
+{
     match rule {
         AffineRule::GreatestOf
         | AffineRule::LeastOf

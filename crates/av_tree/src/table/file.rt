@@ -2,6 +2,7 @@
 
 ghost use Rattle.std.specs.Prelude.{◌≡◌};
 ghost use Rattle.av_tree.specs.rows.FileRows.{symbols_of, choice_of};
+ghost use Rattle.av_tree.specs.Needs.{need_of};
 ghost use Rattle.av_tree.specs.Table.{name_of};
 
 use super::{Class, FunctionName, Keyword, Name, Rule, Symbol, ValueName};
@@ -104,7 +105,9 @@ pub(super) fn choose(name: FileName, class: Class) -> Rule
 }
 
 /// The least number of further brackets that are open at once in whatever a row derives.
-pub(super) fn need(rule: FileRule) -> u32 {
+pub(super) fn need(rule: FileRule) -> u32
+    ensures { result ≡ need_of (Rule.File rule) }
+{
     match rule {
         FileRule::NamedContent
         | FileRule::PlainContent

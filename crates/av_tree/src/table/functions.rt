@@ -2,6 +2,7 @@
 
 ghost use Rattle.std.specs.Prelude.{◌≡◌};
 ghost use Rattle.av_tree.specs.rows.FunctionRows.{symbols_of, choice_of};
+ghost use Rattle.av_tree.specs.Needs.{need_of};
 ghost use Rattle.av_tree.specs.Table.{name_of};
 
 use super::{
@@ -138,7 +139,9 @@ pub(super) fn choose(name: FunctionName, class: Class) -> Rule
 }
 
 /// The least number of further brackets that are open at once in whatever a row derives.
-pub(super) fn need(rule: FunctionRule) -> u32 {
+pub(super) fn need(rule: FunctionRule) -> u32
+    ensures { result ≡ need_of (Rule.Function rule) }
+{
     match rule {
         FunctionRule::BuiltinModule
         | FunctionRule::FuncFunc

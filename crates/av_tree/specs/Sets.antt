@@ -1,5 +1,5 @@
 -- Classes and rows as numbers, and which classes can come first in a name and after it.
-use Rattle.std.proofs.Common.{ℕ, List, [], ◌∷◌}
+use Rattle.std.specs.Prelude.{ℕ, ◌/◌, ◌%◌, ◌^◌, Bool, nat_eq, List, [], ◌∷◌}
 use Rattle.av_lex.specs.declared.token.Sign.TheVariants as sign
 use Rattle.av_tree.specs.declared.class.Class.{Class}
 use Rattle.av_tree.specs.declared.class.Class.TheVariants as class
@@ -622,3 +622,10 @@ follow_of (name.Subscript subscripts_name.SubscriptProduct) = 21060
 follow_of (name.Subscript subscripts_name.SubscriptFactor) = 1099511657028
 follow_of (name.Subscript subscripts_name.NegatedSubscript) = 1099511657028
 follow_of (name.Subscript subscripts_name.SubscriptBase) = 1099511657028
+
+-- whether a class is among those of a number's bits
+unfoldable pub has : ℕ → Class → Bool
+has set c = nat_eq ((set / 2 ^ class_number c) % 2) 1
+
+unfoldable pub is_same_class : Class → Class → Bool
+is_same_class a b = nat_eq (class_number a) (class_number b)

@@ -1,0 +1,52 @@
+-- How many brackets a row needs.
+use Rattle.std.specs.Prelude.{ℕ}
+use Rattle.av_tree.specs.declared.table.Rule.{Rule}
+use Rattle.av_tree.specs.declared.table.Rule.TheVariants as rule
+use Rattle.av_tree.specs.declared.table.file.FileRule.TheVariants as file
+use Rattle.av_tree.specs.declared.table.functions.FunctionRule.TheVariants as functions
+use Rattle.av_tree.specs.declared.table.regions.RegionRule.TheVariants as regions
+use Rattle.av_tree.specs.declared.table.types.TypeRule.TheVariants as types
+use Rattle.av_tree.specs.declared.table.attributes.AttributeRule.TheVariants as attributes
+use Rattle.av_tree.specs.declared.table.maps.MapRule.TheVariants as maps
+use Rattle.av_tree.specs.declared.table.arith.ArithRule.TheVariants as arith
+use Rattle.av_tree.specs.declared.table.affine.AffineRule.TheVariants as affine
+use Rattle.av_tree.specs.declared.table.subscripts.SubscriptRule.TheVariants as subscripts
+
+-- the least number of further brackets that are open at once in whatever a row derives
+abbrev pub need_of : Rule → ℕ
+need_of (rule.File file.NamedContent) = 1
+need_of (rule.File file.PlainContent) = 1
+need_of (rule.File file.OnlyModule) = 1
+need_of (rule.File file.FirstFunction) = 1
+need_of (rule.File file.NextNamedFunction) = 1
+need_of (rule.File file.NextFunction) = 1
+need_of (rule.File file.WrittenFunction) = 1
+need_of (rule.Function functions.BuiltinModule) = 1
+need_of (rule.Function functions.FuncFunc) = 1
+need_of (rule.Function functions.ModuleForm) = 1
+need_of (rule.Function functions.FunctionForm) = 1
+need_of (rule.Region regions.NamedRegion) = 1
+need_of (rule.Type types.BufferType) = 1
+need_of (rule.Type types.MemRefType) = 1
+need_of (rule.Type types.ResultTypeList) = 1
+need_of (rule.Attribute attributes.WrittenDictionary) = 1
+need_of (rule.Attribute attributes.DictionaryHere) = 1
+need_of (rule.Attribute attributes.AttributesPart) = 1
+need_of (rule.Map maps.WrittenMap) = 2
+need_of (rule.Map maps.DimensionNames) = 1
+need_of (rule.Map maps.WrittenSymbolNames) = 1
+need_of (rule.Map maps.InBrackets) = 1
+need_of (rule.Arith arith.WrittenOverflow) = 1
+need_of (rule.Affine affine.AffineFor) = 1
+need_of (rule.Affine affine.AffineLoad) = 1
+need_of (rule.Affine affine.AffineStore) = 1
+need_of (rule.Affine affine.GreatestOf) = 2
+need_of (rule.Affine affine.LeastOf) = 2
+need_of (rule.Affine affine.MapBound) = 2
+need_of (rule.Affine affine.WrittenIterArgs) = 1
+need_of (rule.Affine affine.MapWritten) = 2
+need_of (rule.Affine affine.DimensionOperands) = 1
+need_of (rule.Affine affine.WrittenSymbolOperands) = 1
+need_of (rule.Subscript subscripts.SymbolValue) = 1
+need_of (rule.Subscript subscripts.SubscriptInBrackets) = 1
+need_of _ = 0
