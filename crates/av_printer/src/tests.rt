@@ -1,5 +1,6 @@
-use crate::{Form, spell};
+use crate::{Form, print, spell};
 use av_affine::{Seq, Text};
+use av_io::PlainSink;
 use av_tree::{Body, Node, Tree};
 use std::alloc::{AllocError, Global};
 use std::test::Fail;
@@ -49,5 +50,15 @@ fn spells_both_forms(rt: HostRuntime) -> Result<(), Fail> {
         generic.as_slice(),
         b"\"builtin.module\"() ({\n  \"func.return\"() : () -> ()\n}) : () -> ()\n".as_slice()
     );
+    Ok(())
+}
+
+#[test]
+fn prints_to_a_sink(rt: HostRuntime) -> Result<(), Fail> {
+    let tree = module_with_return(rt.alloc())?;
+    let mut sink = PlainSink::new(rt.alloc(), 7);
+    let printed = print(rt.alloc(), &tree, Form::Named, &mut sink);
+    assert!(rt; printed.is_ok());
+    assert_eq!(rt; sink.bytes(), b"module {\n  return\n}\n".as_slice());
     Ok(())
 }
