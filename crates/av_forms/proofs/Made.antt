@@ -1,15 +1,14 @@
 -- The form of an expression is normal.
-use Rattle.std.proofs.Common.{◌≡◌, List, [], ◌∷◌, refl, sym, ap, ◌∙◌, subst}
+use Rattle.std.proofs.Common.{◌≡◌, List, [], ◌∷◌, refl, sym, subst}
 use Rattle.std.specs.Prelude.{ℤ, pos, negsuc}
-use Rattle.av_affine.specs.declared.expression.Leaf.{Leaf}
 use Rattle.av_affine.specs.declared.expression.Expr.{Expr, Param, Const, Neg', Add', Sub', Mul', Mod', Floor', Ceil', end_of-Expr, more_of-Expr}
 use Rattle.av_affine.specs.declared.linear.DivKind.{DivKind}
 use Rattle.av_affine.specs.declared.linear.DivKind.TheVariants.{Mod, Floor, Ceil}
 use Rattle.av_affine.specs.declared.linear.Term.{Term}
-use Rattle.av_affine.specs.declared.linear.Linear.{Linear, Row_of-Opaque, end_of-Opaque, more_of-Opaque, items-the_row-Opaque, items_hidden-the_row-Opaque-0, roll-Linear, rolls-Linear', out-Linear, out-roll-Linear}
+use Rattle.av_affine.specs.declared.linear.Linear.{Row_of-Opaque, end_of-Opaque, more_of-Opaque, items-the_row-Opaque, items_hidden-the_row-Opaque-0, roll-Linear, rolls-Linear', out-Linear, out-roll-Linear}
 use Rattle.av_affine.specs.declared.linear.Linear.TheBlock.{hidden-the_row-Opaque-0}
 use Rattle.av_affine.specs.declared.linear.Opaque.{Opaque, Opaque'}
-use Rattle.av_affine.specs.Forms.{divide, Parts, constant_parts, joined, scaled, product_by, division_of, divided, parts_of}
+use Rattle.av_affine.specs.Forms.{divide, Parts, constant_parts, joined, scaled, product_by, division_of, parts_of}
 use Rattle.av_forms.proofs.Normal.{Before, Sorted, Alone, Apart, Varies, Normal, NormalOpaque, NormalRow, NormalOpaques, NormalParts}
 use Rattle.av_forms.proofs.Steps.{add_terms-sorted, scale_terms-sorted, add_opaques-apart, add_opaques-normal, scale_opaques-apart, scale_opaques-normal}
 

@@ -1,14 +1,12 @@
 -- Normal forms: in order, without zeros, and without two terms that could be one.
-use Rattle.std.proofs.Common.{◌≡◌, List, [], ◌∷◌, ◌++◌, Bool, true, false, cond, refl, ap, ◌∙◌, arith}
+use Rattle.std.proofs.Common.{◌≡◌, List, [], ◌∷◌, true, false}
 use Rattle.std.specs.Prelude.{ℤ, pos}
 use Rattle.std.specs.Ordering.{int_eq}
-use Rattle.std.proofs.lemmas.Bool.Decides.{nat_tests}
 use Rattle.av_affine.specs.declared.expression.Leaf.{Leaf}
-use Rattle.av_affine.specs.declared.expression.Leaf.TheVariants.{Dim, Sym}
 use Rattle.av_affine.specs.declared.linear.Term.{Term}
 use Rattle.av_affine.specs.declared.linear.Linear.{Linear, Linear', Row_of-Opaque, end_of-Opaque, more_of-Opaque, items-the_row-Opaque, out-Linear}
 use Rattle.av_affine.specs.declared.linear.Opaque.{Opaque, Opaque'}
-use Rattle.av_affine.specs.Forms.{same_leaf, same_division, is_before, term_unless_zero, opaque_unless_zero, factor_of, add_term, add_opaque, add_terms, add_opaques, scale_terms, scale_opaques, Parts}
+use Rattle.av_affine.specs.Forms.{same_division, is_before, Parts}
 
 -- ---- what is normal
 
@@ -27,10 +25,12 @@ unfoldable pub Alone : Opaque → List Opaque → Type 0
 Alone p [] = Unit {0}
 Alone p (o ∷ os) = (same_division o p ≡ false) × Alone p os
 
+-- no two are one division
 unfoldable pub Apart : List Opaque → Type 0
 Apart [] = Unit {0}
 Apart (o ∷ os) = Alone o os × Apart os
 
+-- there is a term or an opaque term
 unfoldable pub Varies : List Term → List Opaque → Type 0
 Varies [] [] = ⊥
 Varies (t ∷ ts) os = Unit {0}
@@ -48,10 +48,12 @@ unfoldable mutual
   NormalRow end_of-Opaque = Unit {0}
   NormalRow (more_of-Opaque o rest) = NormalOpaque o × NormalRow rest
 
+-- the same over a list
 unfoldable pub NormalOpaques : List Opaque → Type 0
 NormalOpaques [] = Unit {0}
 NormalOpaques (o ∷ os) = NormalOpaque o × NormalOpaques os
 
+-- the opaque term with another factor
 abbrev pub with_factor : Opaque → ℤ → Opaque
 with_factor (Opaque' k l d f) g = Opaque' k l d g
 
