@@ -1,0 +1,4 @@
+pub mod Made
+pub mod Normal
+pub mod Spelt
+pub mod Steps
