@@ -179,5 +179,5 @@ mutual
 
 pub spelling-form-law : SpellingFormLaw
 unfolding linear_form
-spelling-form-law e h =
+spelling-form-law e =
     ap roll-Linear (spelled-parts (roll-Linear (parts_of e)) (roll-normal (parts_of e) (normal-parts e)) ∙ out-roll-Linear (parts_of e))

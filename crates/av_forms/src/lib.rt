@@ -5,7 +5,7 @@
 
 ghost use Rattle.av_forms.specs.FormLaws.{SpellingFormLaw};
 
-/// The spelling of an affine expression's linear form has that same form.
+/// The spelling of an expression's linear form has that same form.
 pub fn spelling_keeps_form()
     ensures { SpellingFormLaw }
 {}
