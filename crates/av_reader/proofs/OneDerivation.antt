@@ -10,8 +10,8 @@ use Rattle.av_tree.specs.declared.table.file.FileName.TheVariants as file_name
 use Rattle.av_tree.specs.declared.table.Rule.{Rule}
 use Rattle.av_tree.specs.Table.{symbols_of, name_of, choice_of, is_nullable, has_token}
 use Rattle.av_tree.specs.Classes.{fits_of}
-use Rattle.av_tree.proofs.Sets.{first_of, follow_of}
-use Rattle.av_tree.proofs.Choice.{has, is_same_class, starts, starts_before, follows, implies, both, implied, first-of-row, choice-of-row, follows-of-row, nullable-row, same-class, same-as-itself, after-file}
+use Rattle.av_tree.specs.Sets.{first_of, follow_of, has, is_same_class}
+use Rattle.av_tree.proofs.Choice.{starts, starts_before, follows, implies, both, implied, first-of-row, choice-of-row, follows-of-row, nullable-row, same-class, same-as-itself, after-file}
 use Rattle.av_reader.specs.declared.machine.Event.{Event}
 use Rattle.av_reader.specs.declared.machine.Event.TheVariants as event
 use Rattle.av_reader.specs.Derivation.{Derives, DerivesFile, nothing_left, by_sign, by_word, by_token, by_row}
