@@ -1,5 +1,5 @@
 -- The classes of tokens have one derivation at most.
-use Rattle.std.proofs.Common.{◌≡◌, ℕ, suc, Bool, true, false, ◌&&◌, ◌||◌, not, ◌⊎◌, inl, inr, IsTrue, List, [], ◌∷◌, ◌++◌, refl, sym, ◌∙◌, ap, subst}
+use Rattle.std.proofs.Common.{◌≡◌, ℕ, Bool, true, false, ◌&&◌, ◌||◌, not, ◌⊎◌, inl, inr, IsTrue, List, [], ◌∷◌, ◌++◌, refl, sym, ◌∙◌, ap, subst}
 use Rattle.av_tree.specs.declared.class.Class.{Class}
 use Rattle.av_tree.specs.declared.class.Class.TheVariants as class
 use Rattle.av_tree.specs.declared.table.Symbol.{Symbol}
@@ -9,13 +9,12 @@ use Rattle.av_tree.specs.declared.table.Name.TheVariants as name
 use Rattle.av_tree.specs.declared.table.file.FileName.TheVariants as file_name
 use Rattle.av_tree.specs.declared.table.Rule.{Rule}
 use Rattle.av_tree.specs.Table.{symbols_of, name_of, choice_of, is_nullable, has_token}
-use Rattle.av_tree.specs.Classes.{fits_of}
 use Rattle.av_tree.specs.Sets.{first_of, follow_of, has, is_same_class}
-use Rattle.av_tree.proofs.Choice.{starts, starts_before, follows, implies, both, implied, first-of-row, choice-of-row, follows-of-row, nullable-row, same-class, same-as-itself, after-file}
+use Rattle.av_tree.proofs.Choice.{starts, starts_before, follows, both, implied, first-of-row, choice-of-row, follows-of-row, nullable-row, same-class, same-as-itself, after-file}
 use Rattle.av_reader.specs.declared.machine.Event.{Event}
 use Rattle.av_reader.specs.declared.machine.Event.TheVariants as event
 use Rattle.av_reader.specs.Derivation.{Derives, DerivesFile, nothing_left, by_sign, by_word, by_token, by_row}
-use Rattle.av_reader.specs.State.{ahead}
+use Rattle.av_reader.specs.State.{ahead, comes_next, Told}
 
 or-cases : (a b : Bool) → IsTrue (a || b) → IsTrue a ⊎ IsTrue b
 or-cases true b h = inl refl
@@ -36,20 +35,6 @@ and-both false b h k = absurd (cc)
 not-or : (a b : Bool) → IsTrue a → IsTrue (not b) → IsTrue (not (not a || b))
 not-or true b h k = k
 not-or false b h k = absurd (cc)
-
--- whether a token of the class, or the end, can come next where these symbols are left
-abbrev pub comes_next : List Symbol → Class → Bool
-comes_next [] c = is_same_class class.End c
-comes_next (symbol.Sign s ∷ rest) c = is_same_class (class.Sign s) c
-comes_next (symbol.Word w ∷ rest) c = is_same_class (class.Word w) c
-comes_next (symbol.Token t ∷ rest) c = fits_of t c
-comes_next (symbol.Rows x ∷ rest) c = has (first_of x) c || (is_nullable x && comes_next rest c)
-
--- What comes after a name is known to come after it.
-abbrev pub Told : List Symbol → Type 0
-Told [] = Unit {0}
-Told (symbol.Rows x ∷ ss) = ((c : Class) → IsTrue (comes_next ss c) → IsTrue (has (follow_of x) c)) × Told ss
-Told (_ ∷ ss) = Told ss
 
 next-append : (xs ss : List Symbol) (c : Class) → IsTrue (comes_next (xs ++ ss) c) → IsTrue (starts xs c) ⊎ (IsTrue (not (has_token xs)) × IsTrue (comes_next ss c))
 next-append [] ss c h = inr (refl, h)
@@ -125,3 +110,9 @@ told-file = (λ c h. subst (λ (k : Class). IsTrue (has (follow_of (name.File fi
 
 pub one-derivation : {cs : List Class} {es es' : List Event} → DerivesFile cs es → DerivesFile cs es' → es ≡ es'
 one-derivation d d' = one-from d d' told-file
+
+pub told-tail : (s : Symbol) (ss : List Symbol) → Told (s ∷ ss) → Told ss
+told-tail (symbol.Rows x) ss told = told.1
+told-tail (symbol.Sign x) ss told = told
+told-tail (symbol.Word x) ss told = told
+told-tail (symbol.Token x) ss told = told
