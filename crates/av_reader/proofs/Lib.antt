@@ -1,2 +1,4 @@
 pub mod Weights
 pub mod Steps
+pub mod OneDerivation
+pub mod Refusals

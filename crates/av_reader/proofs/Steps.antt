@@ -1,21 +1,19 @@
 -- What one row and one token do to what the machine keeps.
-use Rattle.std.proofs.Common.{◌≡◌, ℕ, zero, suc, ◌+◌, ◌<◌, ◌≤◌, Bool, false, IsTrue, List, [], ◌∷◌, ◌++◌, Some, None, reverse, take, length, get_or, refl, sym, ◌∙◌, ap, subst, arith, append_assoc, add-one}
+use Rattle.std.proofs.Common.{◌≡◌, ℕ, suc, ◌+◌, ◌≤◌, false, List, [], ◌∷◌, ◌++◌, None, reverse, take, length, refl, sym, ◌∙◌, ap, subst, arith, append_assoc, add-one}
 use Rattle.std.proofs.lemmas.List.{take_all, reverse-append, reverse-reverse, append-nil}
-use Rattle.std.proofs.Math.Seq.{take-suc}
 use Rattle.av_tree.specs.declared.class.Class.{Class}
-use Rattle.av_tree.specs.declared.class.Class.TheVariants as class
 use Rattle.av_tree.specs.declared.table.Symbol.{Symbol}
 use Rattle.av_tree.specs.declared.table.Symbol.TheVariants as symbol
 use Rattle.av_tree.specs.declared.table.Name.{Name}
 use Rattle.av_tree.specs.declared.table.Rule.{Rule}
 use Rattle.av_tree.specs.Table.{symbols_of, name_of}
-use Rattle.av_tree.specs.Classes.{fits_of, bracket_of}
+use Rattle.av_tree.specs.Classes.{bracket_of}
 use Rattle.av_reader.specs.declared.machine.Event.{Event}
 use Rattle.av_reader.specs.declared.machine.Event.TheVariants as event
 use Rattle.av_reader.specs.Derivation.{Derives, DerivesFile, Derived, nothing_left, by_sign, by_word, by_token, by_row, opened, WithinBrackets, signs_with, WithinSigns}
 use Rattle.av_reader.specs.declared.machine.Limits.{Limits}
 use Rattle.av_reader.specs.declared.machine.Machine.{Machine}
-use Rattle.av_reader.specs.State.{Leads, Counted, open_after, signs_after, Fits, spelled, Stands, Expanded, Shifted}
+use Rattle.av_reader.specs.State.{Leads, Counted, open_after, signs_after, Fits, spelled, Expanded}
 
 pub leads-row : {n : ℕ} {taken : List Class} {events : List Event} {x : Name} {ss : List Symbol} (r : Rule) → name_of r ≡ x
     → Leads n taken events (symbol.Rows x ∷ ss) → Leads n taken (events ++ event.Row r n ∷ []) (symbols_of r ++ ss)
@@ -51,7 +49,7 @@ pub open-bound : (most before : ℕ) (taken : List Class) → before ≤ most �
 open-bound most before [] h w = h
 open-bound most before (x ∷ taken) h w = open-bound most (opened (bracket_of x) before) taken w.0 w.1
 
-signs-append : (before n : ℕ) (es : List Event) (r : Rule) → signs_after before (es ++ event.Row r n ∷ []) ≡ signs_with r (signs_after before es)
+pub signs-append : (before n : ℕ) (es : List Event) (r : Rule) → signs_after before (es ++ event.Row r n ∷ []) ≡ signs_with r (signs_after before es)
 signs-append before n [] r = refl
 signs-append before n (event.Token k ∷ es) r = signs-append before n es r
 signs-append before n (event.Row q k ∷ es) r = signs-append (signs_with q before) n es r
@@ -62,7 +60,7 @@ within-append most before n [] r w h = (h, tt)
 within-append most before n (event.Token k ∷ es) r w h = within-append most before n es r w h
 within-append most before n (event.Row q k ∷ es) r w h = (w.0, within-append most (signs_with q before) n es r w.1 h)
 
-signs-bound : (most before : ℕ) (es : List Event) → before ≤ most → WithinSigns most before es → signs_after before es ≤ most
+pub signs-bound : (most before : ℕ) (es : List Event) → before ≤ most → WithinSigns most before es → signs_after before es ≤ most
 signs-bound most before [] h w = h
 signs-bound most before (event.Token k ∷ es) h w = signs-bound most before es h w
 signs-bound most before (event.Row q k ∷ es) h w = signs-bound most (signs_with q before) es w.0 w.1
@@ -113,20 +111,6 @@ pub stack-row : {n : ℕ} {taken : List Class} {events : List Event} (events' : 
 stack-row {n} {taken} {events} events' x items popped after r e named e' f l =
     let on : Leads n taken events (symbol.Rows x ∷ reverse popped) = rw (e, next_off popped (symbol.Rows x)) at l in
     rw (e', f, row_on popped (symbols_of r)) (leads-row r named on)
-
-pub taken-more : (m m' : Machine) (s : Symbol) (c : Class) (cs : List Class) (n : ℕ)
-    → take (n + 1) cs ≡ take n cs ++ c ∷ [] → Expanded m (Some s) cs n
-    → m.depth ≡ open_after 0 (take n cs) → WithinBrackets m.limits.brackets 0 (take n cs)
-    → Shifted m m' s c n → Stands m' cs (n + 1)
-taken-more m m' s c cs n more e deep within k =
-    let now : m'.depth ≡ opened (bracket_of c) (open_after 0 (take n cs)) = k.depth ∙ ap (opened (bracket_of c)) deep in
-    let low : m.depth ≤ m.limits.brackets = rw deep (open-bound m.limits.brackets 0 (take n cs) (omega arith) within) in
-    record {
-      leads = rw (more, k.events, k.stack) (leads-token n (take n cs) m.events.items s c (reverse m.stack.items) k.fits e.leads);
-      depth = rw more (now ∙ sym (open-append 0 (take n cs) c));
-      brackets = rw (more, k.limits) (brackets-append m.limits.brackets 0 (take n cs) c within (rw (← now) (k.within low)));
-      signs = rw (k.limits, k.signs, k.events) (counted-token s n (e.signs k.under));
-    }
 
 pub finished : (m : Machine) (limits : Limits) (cs : List Class) (n : ℕ) → n ≡ length cs → Expanded m None cs n → m.stack.items ≡ []
     → m.over ≡ false → m.limits ≡ limits → WithinBrackets limits.brackets 0 (take n cs) → Derived limits cs m.events.items

@@ -1,5 +1,5 @@
 -- Which events derive which classes of tokens, and when they keep the limits.
-use Rattle.std.specs.Prelude.{◌≡◌, ℕ, suc, ◌+◌, ◌-◌, ◌≤◌, Bool, true, false, IsTrue, if◌then◌else◌, List, [], ◌∷◌, ◌++◌}
+use Rattle.std.specs.Prelude.{◌≡◌, ℕ, suc, ◌+◌, ◌-◌, ◌<◌, ◌≤◌, ◌⊎◌, length, take, IsTrue, if◌then◌else◌, List, [], ◌∷◌, ◌++◌}
 use Rattle.av_tree.specs.declared.class.Class.{Class}
 use Rattle.av_tree.specs.declared.class.Class.TheVariants as class
 use Rattle.av_tree.specs.declared.class.Bracket.{Bracket}
@@ -64,3 +64,19 @@ pub record Derived (limits : Limits) (cs : List Class) (es : List Event) : Type 
   pub derives : DerivesFile cs es
   pub brackets : WithinBrackets limits.brackets 0 cs
   pub signs : WithinSigns limits.signs 0 es
+
+-- No list that begins with these classes is derived within the limits.
+abbrev pub NoneBegins : Limits → List Class → Type 0
+NoneBegins limits cs = (more : List Class) (es : List Event) → Derived limits (cs ++ more) es → ⊥
+
+-- These classes are not derived within the limits.
+abbrev pub NoneDerives : Limits → List Class → Type 0
+NoneDerives limits cs = (es : List Event) → Derived limits cs es → ⊥
+
+-- No list that begins with the classes up to this one is derived, or nothing more stands and these aren't.
+abbrev pub IsWrongAt : Limits → List Class → ℕ → Type 0
+IsWrongAt limits cs at = ((at < length cs) × NoneBegins limits (take (at + 1) cs)) ⊎ ((at ≡ length cs) × NoneDerives limits cs)
+
+-- nothing else derives the classes
+abbrev pub IsOnly : List Class → List Event → Type 0
+IsOnly cs es = (other : List Event) → DerivesFile cs other → other ≡ es

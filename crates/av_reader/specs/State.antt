@@ -1,20 +1,59 @@
 -- What holds of a machine between two tokens, and of its steps.
-use Rattle.std.specs.Prelude.{◌≡◌, ℕ, ◌+◌, ◌<◌, ◌≤◌, Bool, true, false, IsTrue, List, [], ◌∷◌, ◌++◌, reverse, take, Option, Some, None}
+use Rattle.std.specs.Prelude.{◌≡◌, ℕ, ◌≤◌, Bool, true, false, ◌&&◌, ◌||◌, IsTrue, List, [], ◌∷◌, ◌++◌, reverse, take, drop, Option, Some, None}
 use Rattle.av_tree.specs.declared.class.Class.{Class}
 use Rattle.av_tree.specs.declared.class.Class.TheVariants as class
-use Rattle.av_tree.specs.declared.class.Bracket.TheVariants as bracket
 use Rattle.av_tree.specs.declared.table.Symbol.{Symbol}
 use Rattle.av_tree.specs.declared.table.Symbol.TheVariants as symbol
 use Rattle.av_tree.specs.Classes.{fits_of, bracket_of}
+use Rattle.av_tree.specs.Sets.{first_of, follow_of, has, is_same_class}
+use Rattle.av_tree.specs.Table.{is_nullable}
 use Rattle.av_reader.specs.declared.machine.Event.{Event}
 use Rattle.av_reader.specs.declared.machine.Event.TheVariants as event
 use Rattle.av_reader.specs.declared.machine.Limits.{Limits}
 use Rattle.av_reader.specs.declared.machine.Machine.{Machine}
-use Rattle.av_reader.specs.Derivation.{Derives, DerivesFile, opened, WithinBrackets, signs_with, WithinSigns}
+use Rattle.av_reader.specs.Derivation.{Derives, DerivesFile, Derived, opened, WithinBrackets, signs_with, WithinSigns}
 
 -- Whatever derives the rest from the symbols derives the whole with what was taken before.
 pub record Leads (n : ℕ) (taken : List Class) (events : List Event) (symbols : List Symbol) : Type 0 where
   pub whole : (cs : List Class) (es : List Event) → Derives n symbols cs es → DerivesFile (taken ++ cs) (events ++ es)
+
+-- the class of the first token, or of the end
+abbrev pub ahead : List Class → Class
+ahead [] = class.End
+ahead (c ∷ cs) = c
+
+-- The events go on from these ones by a derivation of the rest.
+pub record Continues (n : ℕ) (symbols : List Symbol) (cs : List Class) (events es : List Event) : Type 0 where
+  pub rest : List Event
+  pub splits : es ≡ events ++ rest
+  pub derives : Derives n symbols cs rest
+
+-- Whatever derives what was taken and a rest that begins so goes on from the symbols.
+pub record Only (n : ℕ) (taken : List Class) (events : List Event) (symbols : List Symbol) (next : Class) : Type 0 where
+  pub only : (cs : List Class) (es : List Event) → ahead cs ≡ next → DerivesFile (taken ++ cs) es → Continues n symbols cs events es
+
+-- Nothing that begins with what was taken and this class is derived within the limits.
+abbrev pub Doomed : Limits → List Class → Class → Type 0
+Doomed limits taken next = (cs : List Class) (es : List Event) → ahead cs ≡ next → Derived limits (taken ++ cs) es → ⊥
+
+-- whether a token of the class, or the end, can come next where these symbols are left
+abbrev pub comes_next : List Symbol → Class → Bool
+comes_next [] c = is_same_class class.End c
+comes_next (symbol.Sign s ∷ rest) c = is_same_class (class.Sign s) c
+comes_next (symbol.Word w ∷ rest) c = is_same_class (class.Word w) c
+comes_next (symbol.Token t ∷ rest) c = fits_of t c
+comes_next (symbol.Rows x ∷ rest) c = has (first_of x) c || (is_nullable x && comes_next rest c)
+
+-- What comes after a name is known to come after it.
+abbrev pub Told : List Symbol → Type 0
+Told [] = Unit {0}
+Told (symbol.Rows x ∷ ss) = ((c : Class) → IsTrue (comes_next ss c) → IsTrue (has (follow_of x) c)) × Told ss
+Told (_ ∷ ss) = Told ss
+
+-- whether the symbol is a name
+abbrev pub is_name : Option Symbol → Bool
+is_name (Some (symbol.Rows x)) = true
+is_name _ = false
 
 -- how many brackets are open after these tokens
 abbrev pub open_after : ℕ → List Class → ℕ
@@ -26,11 +65,6 @@ abbrev pub signs_after : ℕ → List Event → ℕ
 signs_after before [] = before
 signs_after before (event.Token n ∷ es) = signs_after before es
 signs_after before (event.Row r n ∷ es) = signs_after (signs_with r before) es
-
--- the class of the first token, or of the end
-abbrev pub ahead : List Class → Class
-ahead [] = class.End
-ahead (c ∷ cs) = c
 
 -- a token of the class stands where the symbol asks for one
 abbrev pub Fits : Symbol → Class → Type 0
@@ -60,6 +94,8 @@ pub record Stands (m : Machine) (cs : List Class) (n : ℕ) : Type 0 where
   pub depth : m.depth ≡ open_after 0 (take n cs)
   pub brackets : WithinBrackets m.limits.brackets 0 (take n cs)
   pub signs : Counted m.limits.signs m.signs m.events.items
+  pub only : (next : Class) → Only n (take n cs) m.events.items (reverse m.stack.items) next
+  pub told : Told (reverse m.stack.items)
 
 -- A machine that took none of the tokens, whichever they are.
 abbrev pub StandsFresh : Machine → Type 0
@@ -69,6 +105,10 @@ StandsFresh m = (cs : List Class) → Stands m cs 0
 pub record Expanded (m : Machine) (next : Option Symbol) (cs : List Class) (n : ℕ) : Type 0 where
   pub leads : Leads n (take n cs) m.events.items (with_next next (reverse m.stack.items))
   pub signs : m.over ≡ false → Counted m.limits.signs m.signs m.events.items
+  pub only : Only n (take n cs) m.events.items (with_next next (reverse m.stack.items)) (ahead (drop n cs))
+  pub told : Told (with_next next (reverse m.stack.items))
+  pub doomed : m.over ≡ true → Doomed m.limits (take n cs) (ahead (drop n cs))
+  pub no_name : is_name next ≡ false
 
 -- What taking a token does where this symbol asks for one.
 pub record Shifted (old new : Machine) (s : Symbol) (c : Class) (n : ℕ) : Type 0 where

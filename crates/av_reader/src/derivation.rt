@@ -1,7 +1,7 @@
 //! Deriving: the classes of tokens to the events of their derivation, or the first wrong token.
 
-ghost use Rattle.std.specs.Prelude.{IfOk};
-ghost use Rattle.av_reader.specs.Derivation.{Derived};
+ghost use Rattle.std.specs.Prelude.{◌≢◌, IfErr, IfOk};
+ghost use Rattle.av_reader.specs.Derivation.{Derived, IsOnly, IsWrongAt};
 
 use super::machine::{Event, Limits, Machine, Stop};
 use av_tree::Class;
@@ -21,7 +21,9 @@ pub struct Refused {
 ///
 /// The number of the first wrong token, or want of memory, as for 2^32 tokens or more.
 pub fn derive(alloc: Global, classes: &[Class], limits: Limits) -> Result<Vec<Event>, Refused>
-    ensures { IfOk result (λ events. Derived limits classes.now events.items) }
+    ensures derived { IfOk result (λ events. Derived limits classes.now events.items) }
+    ensures only { IfOk result (λ events. IsOnly classes.now events.items) }
+    ensures wrong { IfErr result (λ refused. refused.stop ≢ Stop.NoMemory → IsWrongAt limits classes.now refused.at) }
 {
     let Ok(count) = u32::try_from(classes.len()) else {
         return Err(Refused {

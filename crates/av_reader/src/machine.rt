@@ -1,8 +1,10 @@
 //! The predictive machine: a stack of symbols, which one token after another uses up.
 
-ghost use Rattle.std.specs.Prelude.{◌≡◌, ◌+◌, ◌^◌, ◌<◌, ◌≤◌, ◌++◌, ◌∷◌, [], false, drop, length, reverse, IfOk, OnOk};
-ghost use Rattle.av_reader.specs.Derivation.{Derived, signs_with};
-ghost use Rattle.av_reader.specs.State.{Expanded, Shifted, Stands, StandsFresh, ahead as ahead_of};
+ghost use Rattle.std.specs.Prelude.{◌≡◌, ◌≢◌, ◌+◌, ◌<◌, ◌≤◌, ◌++◌, ◌∷◌, [], false, drop, length, reverse, take, IfErr, IfOk, OnOk};
+ghost use Rattle.av_tree.specs.Classes.{bracket_of as bracket_of_class};
+ghost use Rattle.av_tree.specs.Needs.{need_of};
+ghost use Rattle.av_reader.specs.Derivation.{Derived, NoneBegins, NoneDerives, IsOnly, opened, signs_with};
+ghost use Rattle.av_reader.specs.State.{Expanded, Fits, Shifted, Stands, StandsFresh, ahead as ahead_of};
 
 use av_tree::table::{
     FileName, Name, Rule, Symbol, begins_expression, choose, counts_sign, fits, need, symbols,
@@ -38,12 +40,22 @@ pub enum Stop {
 }
 
 impl From<AllocError> for Stop {
+    ghost use Rattle.std.specs.Prelude.{◌≡◌};
+    ghost use Rattle.av_reader.specs.declared.machine.Stop.TheVariants.{NoMemory};
+
+    ghost from_gives = { λ _ stop. stop ≡ NoMemory };
+
     fn from(_fault: AllocError) -> Stop {
         Stop::NoMemory
     }
 }
 
 impl<T: Drop> From<AllocFailed<T>> for Stop {
+    ghost use Rattle.std.specs.Prelude.{◌≡◌};
+    ghost use Rattle.av_reader.specs.declared.machine.Stop.TheVariants.{NoMemory};
+
+    ghost from_gives = { λ _ stop. stop ≡ NoMemory };
+
     fn from(_fault: AllocFailed<T>) -> Stop {
         Stop::NoMemory
     }
@@ -97,6 +109,7 @@ impl Machine {
         requires stands { Stands self.old classes.now at }
         ensures stands { OnOk result (Stands self.new classes.now (at + 1)) }
         ensures limits { OnOk result (self.new.limits ≡ self.old.limits) }
+        ensures wrong { IfErr result (λ stop. stop ≢ Stop.NoMemory → NoneBegins self.old.limits (take (at + 1) classes.now)) }
     {
         match self.expand(classes, at)? {
             Some(symbol) => self.shift(symbol, classes[at as usize], at),
@@ -112,11 +125,19 @@ impl Machine {
     pub fn finish(mut self, classes: &[Class], count: u32) -> Result<Vec<Event>, Stop>
         requires all { count ≡ length classes.now }
         requires stands { Stands self classes.now count }
-        ensures { IfOk result (λ events. Derived self.limits classes.now events.items) }
+        ensures derived { IfOk result (λ events. Derived self.limits classes.now events.items) }
+        ensures only { IfOk result (λ events. IsOnly classes.now events.items) }
+        ensures wrong { IfErr result (λ stop. stop ≢ Stop.NoMemory → NoneDerives self.limits classes.now) }
     {
         match self.expand(classes, count)? {
-            None if !self.over => Ok(self.events),
-            _ => Err(Stop::Wrong),
+            Some(_) => Err(Stop::Wrong),
+            None => {
+                if self.over {
+                    Err(Stop::Wrong)
+                } else {
+                    Ok(self.events)
+                }
+            }
         }
     }
 
@@ -151,6 +172,7 @@ impl Machine {
         ensures brackets { self.new.depth ≡ self.old.depth }
         ensures events { OnOk result (self.new.events.items ≡ self.old.events.items ++ Event.Row rule at ∷ []) }
         ensures under { OnOk result (self.new.over ≡ false → self.old.over ≡ false) }
+        ensures within { OnOk result (self.old.over ≡ false → self.old.depth + need_of rule ≤ self.old.limits.brackets → signs_with rule self.old.signs ≤ self.old.limits.signs → self.new.over ≡ false) }
         ensures counted { OnOk result (self.new.over ≡ false → self.new.signs ≡ signs_with rule self.old.signs) }
         ensures signs { OnOk result (self.new.over ≡ false → self.old.signs ≤ self.old.limits.signs → self.new.signs ≤ self.old.limits.signs) }
     {
@@ -173,7 +195,8 @@ impl Machine {
 
     // Takes a token where a symbol of the stack asks for one.
     fn shift(&mut self, symbol: Symbol, class: Class, at: u32) -> Result<(), Stop>
-        ensures { OnOk result (Shifted self.old self.new symbol class at) }
+        ensures shifted { OnOk result (Shifted self.old self.new symbol class at) }
+        ensures wrong { IfErr result (λ stop. Fits symbol class → self.old.over ≡ false → opened (bracket_of_class class) self.old.depth ≤ self.old.limits.brackets → stop ≡ Stop.NoMemory) }
     {
         let (fitting, spelled) = match symbol {
             Symbol::Sign(sign) => (class == Class::Sign(sign), false),

@@ -1,5 +1,5 @@
 -- The brackets that a row needs are those that its symbols need: checked for each row.
-use Rattle.std.proofs.Common.{◌≡◌, ℕ, suc, ◌+◌, ◌-◌, ◌≤◌, max, Bool, ◌&&◌, nat_le, IsTrue, List, [], ◌∷◌, ◌++◌, refl, sym, subst, arith}
+use Rattle.std.proofs.Common.{◌≡◌, ℕ, suc, ◌+◌, ◌-◌, ◌≤◌, max, Bool, ◌&&◌, nat_le, IsTrue, List, [], ◌∷◌, ◌++◌, refl, arith}
 use Rattle.std.proofs.lemmas.Bool.Decides.{nat_tests}
 use Rattle.av_tree.specs.declared.class.Class.{Class}
 use Rattle.av_tree.specs.declared.class.Class.TheVariants as class

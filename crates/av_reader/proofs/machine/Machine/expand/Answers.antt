@@ -1,10 +1,15 @@
 -- A row goes on the stack in place of its name, and among the events.
-use Rattle.std.proofs.Common.{◌∙◌, sym, ap, ◌++◌, ◌∷◌, [], reverse, false, ◌≡◌, ◌≤◌, subst, List}
-use Rattle.av_tree.specs.declared.table.Symbol.{Symbol}
+use Rattle.std.proofs.Common.{◌∙◌, refl, arith, sym, ap, ◌++◌, ◌∷◌, [], inl, inr, reverse, true, false, Bool, ◌≡◌}
+use Rattle.std.proofs.lemmas.Bool.{cases_Bool}
+use Rattle.std.proofs.lemmas.List.{append-nil}
 use Rattle.av_tree.specs.declared.table.Symbol.TheVariants as symbol
-use Rattle.av_tree.specs.Table.{symbols_of}
-use Rattle.av_reader.proofs.Steps.{stack-row, counted-row, counted-bound}
+use Rattle.av_tree.specs.Table.{symbols_of, choice_of}
+use Rattle.av_reader.proofs.Steps.{stack-row, counted-row, counted-bound, next_off}
+use Rattle.av_reader.proofs.Refusals.{row-step, row-doomed}
 use Rattle.av_reader.proofs.machine.Machine.expand.Goals as goal
+
+not-both : (b : Bool) → b ≡ true → b ≡ false → ⊥
+not-both b e f = absurd (cc)
 
 pub loop-symbol-preserved : goal.loop-symbol-preserved
 loop-symbol-preserved c =
@@ -14,10 +19,50 @@ loop-symbol-preserved c =
     let e = c.in_ok-enter-in-Rows.ensures in
     let popped : old.stack.items ≡ c.pop.new.self.items ++ symbol.Rows c.in-Rows.name ∷ [] = rw c.in-Rows.is at c.in-Some.ensures.items in
     let pushed : new.stack.items ≡ c.pop.new.self.items ++ reverse (symbols_of c.choose-rule.result) = cc (e.stack, c.in_ok-push_row-in-Rows.ensures, ap reverse c.symbols.ensures.value) in
+    let chose : choice_of c.in-Rows.name c.ahead-class.result ≡ c.choose-rule.result = sym c.choose-rule.ensures.choice in
+    let step = row-step _ _ _ new.events.items _ _ _ new.stack.items _ _ popped c.choose-rule.ensures.name pushed e.events chose kept.only kept.told in
     record {
       leads = stack-row _ _ _ _ _ _ popped c.choose-rule.ensures.name pushed e.events kept.leads;
       signs = λ under. let k = kept.signs (e.under under) in
           rw (e.limits, e.events) (counted-row new.signs c.args.at c.choose-rule.result k (e.counted under) (e.signs under (counted-bound k)));
+      only = step.0;
+      told = step.1;
+      doomed = λ over. elim (cases_Bool old.over) [
+        | inl before ↦ rw e.limits (kept.doomed before)
+        | inr under ↦ rw e.limits (row-doomed old.limits _ _ _ _ _ _ _ _ old.depth old.signs popped chose kept.only kept.told (kept.depth ∙ c.requires.depth) (kept.signs under).counted
+            (λ a b. not-both new.over over (e.within under a b)))
+      ];
       limits = e.limits ∙ kept.limits;
       depth = e.brackets ∙ kept.depth;
+    }
+
+pub returns-in-Sign : goal.returns-in-Sign
+returns-in-Sign c =
+    let kept = c.loop-symbol.invariant in
+    let off : reverse c.loop-symbol.self.stack.items ≡ c.in-Some.symbol ∷ reverse c.pop.new.self.items = ap reverse c.in-Some.ensures.items ∙ next_off c.pop.new.self.items c.in-Some.symbol in
+    record {
+      expanded = record {
+        leads = rw off at kept.leads;
+        signs = kept.signs;
+        only = rw (off, c.ahead-class.ensures) at kept.only;
+        told = rw off at kept.told;
+        doomed = λ o. rw c.ahead-class.ensures at (kept.doomed o);
+        no_name = grind (arith, c.in-Sign.is);
+      };
+      empty = λ e. absurd (cc);
+      limits = kept.limits;
+      brackets = kept.depth;
+    }
+
+pub returns-clause-expanded : goal.returns-clause-expanded
+returns-clause-expanded c =
+    let kept = c.loop-symbol.invariant in
+    let same : c.loop-symbol.self.stack.items ≡ c.pop.new.self.items = c.in_default.ensures.items ∙ append-nil _ in
+    record {
+      leads = rw same at kept.leads;
+      signs = kept.signs;
+      only = rw (same, c.ahead-class.ensures) at kept.only;
+      told = rw same at kept.told;
+      doomed = λ o. rw c.ahead-class.ensures at (kept.doomed o);
+      no_name = refl;
     }
