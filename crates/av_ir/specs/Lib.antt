@@ -5,3 +5,4 @@ pub mod Named
 pub mod Run
 pub mod OneLevel
 pub mod ScalarRun
+pub mod Examples
