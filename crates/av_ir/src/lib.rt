@@ -7,6 +7,7 @@
 mod binding;
 mod finding;
 mod fitting;
+pub mod laws;
 mod marking;
 mod module;
 mod places;

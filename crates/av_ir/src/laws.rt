@@ -1,0 +1,18 @@
+//! What holds of runs, for the proofs of callers. These functions do nothing.
+ghost use Rattle.std.specs.Prelude.{ℕ};
+ghost use Rattle.av_ir.specs.Examples.{AddExamples, LoadExamples, LoopExamples};
+ghost use Rattle.av_ir.specs.OneLevel.{OpLaw, RegionLaw};
+ghost use Rattle.av_ir.specs.ScalarRun.{perform};
+
+/// The scalar run of one operation and of one region, in terms of their parts.
+pub fn one_level()
+    ensures op { OpLaw perform }
+    ensures region { RegionLaw perform }
+{}
+
+/// Small runs of one operation, whose ends were worked out by hand.
+pub fn worked_examples()
+    ensures load { (number : ℕ) → LoadExamples number }
+    ensures add { (number : ℕ) → AddExamples number }
+    ensures looped { (number : ℕ) → LoopExamples number }
+{}
