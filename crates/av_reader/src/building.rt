@@ -14,10 +14,10 @@ mod subscripts;
 mod types;
 mod value;
 
-use super::machine::Event;
+use av_derive::{Event, spelling_of};
 use av_lex::Token;
+use av_tree::Tree;
 use av_tree::table::Rule;
-use av_tree::{Tree, spelling_of};
 pub(crate) use stack::Fault as BuildFault;
 use stack::{Fault, Stack};
 use std::alloc::Global;

@@ -3,10 +3,9 @@
 ghost use Rattle.std.specs.Prelude.{◌<◌, ◌^◌, length};
 
 use super::building::{BuildFault, build};
-use super::derivation::derive;
-use super::machine::{Limits, Stop};
+use av_derive::{Limits, Stop, classes_of, derive};
 use av_lex::Token;
-use av_tree::{Class, Tree, class_of, spelling_of};
+use av_tree::Tree;
 use std::alloc::{AllocError, Global};
 use thiserror::Error;
 
@@ -58,15 +57,6 @@ pub fn read(alloc: Global, bytes: &[u8], tokens: &[Token]) -> Result<Tree, ReadR
         BuildFault::NoMemory => ReadRefusal::NoMemory,
         BuildFault::Misshapen => ReadRefusal::NotAModule(0),
     })
-}
-
-// The classes of tokens, in order.
-fn classes_of(alloc: Global, bytes: &[u8], tokens: &[Token]) -> Result<Vec<Class>, AllocError> {
-    let mut classes = Vec::with_capacity(alloc, tokens.len())?;
-    for token in tokens {
-        classes.push(class_of(token.kind, spelling_of(bytes, token)))?;
-    }
-    Ok(classes)
 }
 
 fn refusal(stop: Stop, place: u32) -> ReadRefusal {

@@ -9,6 +9,6 @@ pub mod table;
 mod written;
 
 pub use attribute::{Alias, Attr, Element, Named};
-pub use class::{Bracket, Class, Keyword, bracket_of, class_of, spelling_of};
+pub use class::{Bracket, Class, Keyword, bracket_of};
 pub use node::{Body, BodyArg, Node, Tree};
 pub use written::{DimText, ExprText, LayoutText, MapText, RowText, SetText, SizeText, TypeText};

@@ -3,8 +3,8 @@
 ghost use Rattle.std.specs.Prelude.{◌≡◌, ◌≢◌, ◌+◌, ◌<◌, ◌≤◌, ◌++◌, ◌∷◌, [], false, drop, length, reverse, take, IfErr, IfOk, OnOk};
 ghost use Rattle.av_tree.specs.Classes.{bracket_of as bracket_of_class};
 ghost use Rattle.av_tree.specs.Needs.{need_of};
-ghost use Rattle.av_reader.specs.Derivation.{Derived, NoneBegins, NoneDerives, IsOnly, opened, signs_with};
-ghost use Rattle.av_reader.specs.State.{Expanded, Fits, Shifted, Stands, StandsFresh, ahead as ahead_of};
+ghost use Rattle.av_derive.specs.Derivation.{Derived, NoneBegins, NoneDerives, IsOnly, opened, signs_with};
+ghost use Rattle.av_derive.specs.State.{Expanded, Fits, Shifted, Stands, StandsFresh, ahead as ahead_of};
 
 use av_tree::table::{
     FileName, Name, Rule, Symbol, begins_expression, choose, counts_sign, fits, need, symbols,
@@ -41,7 +41,7 @@ pub enum Stop {
 
 impl From<AllocError> for Stop {
     ghost use Rattle.std.specs.Prelude.{◌≡◌};
-    ghost use Rattle.av_reader.specs.declared.machine.Stop.TheVariants.{NoMemory};
+    ghost use Rattle.av_derive.specs.declared.machine.Stop.TheVariants.{NoMemory};
 
     ghost from_gives = { λ _ stop. stop ≡ NoMemory };
 
@@ -52,7 +52,7 @@ impl From<AllocError> for Stop {
 
 impl<T: Drop> From<AllocFailed<T>> for Stop {
     ghost use Rattle.std.specs.Prelude.{◌≡◌};
-    ghost use Rattle.av_reader.specs.declared.machine.Stop.TheVariants.{NoMemory};
+    ghost use Rattle.av_derive.specs.declared.machine.Stop.TheVariants.{NoMemory};
 
     ghost from_gives = { λ _ stop. stop ≡ NoMemory };
 

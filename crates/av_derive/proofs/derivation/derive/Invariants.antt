@@ -1,6 +1,6 @@
 use Rattle.std.proofs.Common.{◌≡◌}
-use Rattle.av_reader.specs.State.{Stands}
-use Rattle.av_reader.proofs.derivation.derive.Given as goal
+use Rattle.av_derive.specs.State.{Stands}
+use Rattle.av_derive.proofs.derivation.derive.Given as goal
 
 abbrev pub invariant-loop-at : goal.invariant-loop-at
 invariant-loop-at l = record {

@@ -4,9 +4,9 @@ use Rattle.std.proofs.lemmas.Bool.{cases_Bool}
 use Rattle.std.proofs.lemmas.List.{append-nil}
 use Rattle.av_tree.specs.declared.table.Symbol.TheVariants as symbol
 use Rattle.av_tree.specs.Table.{symbols_of, choice_of}
-use Rattle.av_reader.proofs.Steps.{stack-row, counted-row, counted-bound, next_off}
-use Rattle.av_reader.proofs.Refusals.{row-step, row-doomed}
-use Rattle.av_reader.proofs.machine.Machine.expand.Goals as goal
+use Rattle.av_derive.proofs.Steps.{stack-row, counted-row, counted-bound, next_off}
+use Rattle.av_derive.proofs.Refusals.{row-step, row-doomed}
+use Rattle.av_derive.proofs.machine.Machine.expand.Goals as goal
 
 not-both : (b : Bool) → b ≡ true → b ≡ false → ⊥
 not-both b e f = absurd (cc)

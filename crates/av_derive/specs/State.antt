@@ -7,11 +7,11 @@ use Rattle.av_tree.specs.declared.table.Symbol.TheVariants as symbol
 use Rattle.av_tree.specs.Classes.{fits_of, bracket_of}
 use Rattle.av_tree.specs.Sets.{first_of, follow_of, has, is_same_class}
 use Rattle.av_tree.specs.Table.{is_nullable}
-use Rattle.av_reader.specs.declared.machine.Event.{Event}
-use Rattle.av_reader.specs.declared.machine.Event.TheVariants as event
-use Rattle.av_reader.specs.declared.machine.Limits.{Limits}
-use Rattle.av_reader.specs.declared.machine.Machine.{Machine}
-use Rattle.av_reader.specs.Derivation.{Derives, DerivesFile, Derived, opened, WithinBrackets, signs_with, WithinSigns}
+use Rattle.av_derive.specs.declared.machine.Event.{Event}
+use Rattle.av_derive.specs.declared.machine.Event.TheVariants as event
+use Rattle.av_derive.specs.declared.machine.Limits.{Limits}
+use Rattle.av_derive.specs.declared.machine.Machine.{Machine}
+use Rattle.av_derive.specs.Derivation.{Derives, DerivesFile, Derived, opened, WithinBrackets, signs_with, WithinSigns}
 
 -- Whatever derives the rest from the symbols derives the whole with what was taken before.
 pub record Leads (n : ℕ) (taken : List Class) (events : List Event) (symbols : List Symbol) : Type 0 where

@@ -8,12 +8,12 @@ use Rattle.av_tree.specs.declared.table.Name.{Name}
 use Rattle.av_tree.specs.declared.table.Rule.{Rule}
 use Rattle.av_tree.specs.Table.{symbols_of, name_of}
 use Rattle.av_tree.specs.Classes.{bracket_of}
-use Rattle.av_reader.specs.declared.machine.Event.{Event}
-use Rattle.av_reader.specs.declared.machine.Event.TheVariants as event
-use Rattle.av_reader.specs.Derivation.{Derives, DerivesFile, Derived, nothing_left, by_sign, by_word, by_token, by_row, opened, WithinBrackets, signs_with, WithinSigns}
-use Rattle.av_reader.specs.declared.machine.Limits.{Limits}
-use Rattle.av_reader.specs.declared.machine.Machine.{Machine}
-use Rattle.av_reader.specs.State.{Leads, Counted, open_after, signs_after, Fits, spelled, Expanded}
+use Rattle.av_derive.specs.declared.machine.Event.{Event}
+use Rattle.av_derive.specs.declared.machine.Event.TheVariants as event
+use Rattle.av_derive.specs.Derivation.{Derives, DerivesFile, Derived, nothing_left, by_sign, by_word, by_token, by_row, opened, WithinBrackets, signs_with, WithinSigns}
+use Rattle.av_derive.specs.declared.machine.Limits.{Limits}
+use Rattle.av_derive.specs.declared.machine.Machine.{Machine}
+use Rattle.av_derive.specs.State.{Leads, Counted, open_after, signs_after, Fits, spelled, Expanded}
 
 pub leads-row : {n : ℕ} {taken : List Class} {events : List Event} {x : Name} {ss : List Symbol} (r : Rule) → name_of r ≡ x
     → Leads n taken events (symbol.Rows x ∷ ss) → Leads n taken (events ++ event.Row r n ∷ []) (symbols_of r ++ ss)

@@ -1,7 +1,7 @@
 //! Deriving: the classes of tokens to the events of their derivation, or the first wrong token.
 
 ghost use Rattle.std.specs.Prelude.{◌≢◌, IfErr, IfOk};
-ghost use Rattle.av_reader.specs.Derivation.{Derived, IsOnly, IsWrongAt};
+ghost use Rattle.av_derive.specs.Derivation.{Derived, IsOnly, IsWrongAt};
 
 use super::machine::{Event, Limits, Machine, Stop};
 use av_tree::Class;

@@ -17,16 +17,16 @@ use Rattle.av_tree.specs.Table.{symbols_of, name_of, choice_of}
 use Rattle.av_tree.specs.Classes.{bracket_of}
 use Rattle.av_tree.specs.Needs.{need_of}
 use Rattle.av_tree.proofs.Depth.{lift, needed, lift-row, need-within, no-bracket}
-use Rattle.av_reader.specs.declared.machine.Event.{Event}
-use Rattle.av_reader.specs.declared.machine.Event.TheVariants as event
-use Rattle.av_reader.specs.declared.machine.Limits.{Limits}
-use Rattle.av_reader.specs.declared.machine.Machine.{Machine}
-use Rattle.av_reader.specs.declared.machine.Stop.{Stop}
-use Rattle.av_reader.specs.declared.machine.Stop.TheVariants as stop
-use Rattle.av_reader.specs.Derivation.{Derives, DerivesFile, Derived, NoneBegins, NoneDerives, nothing_left, by_sign, by_word, by_token, by_row, opened, WithinBrackets, signs_with, WithinSigns}
-use Rattle.av_reader.specs.State.{Continues, Only, Doomed, Told, is_name, Stands, StandsFresh, Expanded, Shifted, ahead, open_after, signs_after, Fits, spelled}
-use Rattle.av_reader.proofs.Steps.{signs-append, signs-bound, leads-token, counted-token, open-append, open-bound, brackets-append, next_off, row_on}
-use Rattle.av_reader.proofs.OneDerivation.{chosen, next-comes, told-row, told-tail, told-file}
+use Rattle.av_derive.specs.declared.machine.Event.{Event}
+use Rattle.av_derive.specs.declared.machine.Event.TheVariants as event
+use Rattle.av_derive.specs.declared.machine.Limits.{Limits}
+use Rattle.av_derive.specs.declared.machine.Machine.{Machine}
+use Rattle.av_derive.specs.declared.machine.Stop.{Stop}
+use Rattle.av_derive.specs.declared.machine.Stop.TheVariants as stop
+use Rattle.av_derive.specs.Derivation.{Derives, DerivesFile, Derived, NoneBegins, NoneDerives, nothing_left, by_sign, by_word, by_token, by_row, opened, WithinBrackets, signs_with, WithinSigns}
+use Rattle.av_derive.specs.State.{Continues, Only, Doomed, Told, is_name, Stands, StandsFresh, Expanded, Shifted, ahead, open_after, signs_after, Fits, spelled}
+use Rattle.av_derive.proofs.Steps.{signs-append, signs-bound, leads-token, counted-token, open-append, open-bound, brackets-append, next_off, row_on}
+use Rattle.av_derive.proofs.OneDerivation.{chosen, next-comes, told-row, told-tail, told-file}
 
 row-goes-on : {n : ℕ} {x : Name} {ss : List Symbol} {cs : List Class} {rest : List Event} (r : Rule) → Told (symbol.Rows x ∷ ss)
     → choice_of x (ahead cs) ≡ r → Derives n (symbol.Rows x ∷ ss) cs rest → Continues n (symbols_of r ++ ss) cs (event.Row r n ∷ []) rest

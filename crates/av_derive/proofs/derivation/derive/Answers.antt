@@ -1,7 +1,7 @@
 -- The machine stands before its first token, and at last behind all of them.
 use Rattle.std.proofs.Common.{◌≡◌, ℕ, subst, arith}
-use Rattle.av_reader.specs.State.{Stands}
-use Rattle.av_reader.proofs.derivation.derive.Goals as goal
+use Rattle.av_derive.specs.State.{Stands}
+use Rattle.av_derive.proofs.derivation.derive.Goals as goal
 
 pub loop-at-init : goal.loop-at-init
 loop-at-init c = record { stands = c.in-Ok-new.ensures.stands _; limits = c.in-Ok-new.ensures.limits }

@@ -4,8 +4,8 @@ use Rattle.av_tree.specs.declared.table.Symbol.{Symbol}
 use Rattle.av_tree.specs.declared.table.Symbol.TheVariants as symbol
 use Rattle.av_tree.specs.declared.table.Name.TheVariants as name
 use Rattle.av_tree.specs.declared.table.file.FileName.TheVariants as file_name
-use Rattle.av_reader.proofs.Refusals.{fresh-stands}
-use Rattle.av_reader.proofs.machine.Machine.new.Goals as goal
+use Rattle.av_derive.proofs.Refusals.{fresh-stands}
+use Rattle.av_derive.proofs.machine.Machine.new.Goals as goal
 
 pub returns-clause-stands : goal.returns-clause-stands
 returns-clause-stands c =

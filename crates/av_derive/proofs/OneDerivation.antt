@@ -11,10 +11,10 @@ use Rattle.av_tree.specs.declared.table.Rule.{Rule}
 use Rattle.av_tree.specs.Table.{symbols_of, name_of, choice_of, is_nullable, has_token}
 use Rattle.av_tree.specs.Sets.{first_of, follow_of, has, is_same_class}
 use Rattle.av_tree.proofs.Choice.{starts, starts_before, follows, both, implied, first-of-row, choice-of-row, follows-of-row, nullable-row, same-class, same-as-itself, after-file}
-use Rattle.av_reader.specs.declared.machine.Event.{Event}
-use Rattle.av_reader.specs.declared.machine.Event.TheVariants as event
-use Rattle.av_reader.specs.Derivation.{Derives, DerivesFile, nothing_left, by_sign, by_word, by_token, by_row}
-use Rattle.av_reader.specs.State.{ahead, comes_next, Told}
+use Rattle.av_derive.specs.declared.machine.Event.{Event}
+use Rattle.av_derive.specs.declared.machine.Event.TheVariants as event
+use Rattle.av_derive.specs.Derivation.{Derives, DerivesFile, nothing_left, by_sign, by_word, by_token, by_row}
+use Rattle.av_derive.specs.State.{ahead, comes_next, Told}
 
 or-cases : (a b : Bool) → IsTrue (a || b) → IsTrue a ⊎ IsTrue b
 or-cases true b h = inl refl

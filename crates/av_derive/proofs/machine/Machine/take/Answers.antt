@@ -3,10 +3,10 @@ use Rattle.std.proofs.Common.{◌∙◌, ◌+◌, refl, subst, take, get_or, add
 use Rattle.std.proofs.lemmas.Result.{on_ok_weaker, MatchResult-weaker}
 use Rattle.std.proofs.Math.Seq.{take-suc}
 use Rattle.av_tree.specs.declared.class.Class.TheVariants as class
-use Rattle.av_reader.specs.declared.machine.Limits.{Limits}
-use Rattle.av_reader.specs.Derivation.{NoneBegins}
-use Rattle.av_reader.proofs.Refusals.{taken-more, token-refused, nothing-asked, next-class}
-use Rattle.av_reader.proofs.machine.Machine.take.Goals as goal
+use Rattle.av_derive.specs.declared.machine.Limits.{Limits}
+use Rattle.av_derive.specs.Derivation.{NoneBegins}
+use Rattle.av_derive.proofs.Refusals.{taken-more, token-refused, nothing-asked, next-class}
+use Rattle.av_derive.proofs.machine.Machine.take.Goals as goal
 
 pub returns-in-Some-clause-stands : goal.returns-in-Some-clause-stands
 returns-in-Some-clause-stands c =

@@ -1,11 +1,11 @@
 -- Nothing is left on the stack, so the events derive all classes, or else more has to come.
 use Rattle.std.proofs.Common.{subst}
-use Rattle.av_reader.specs.declared.machine.Limits.{Limits}
-use Rattle.av_reader.specs.Derivation.{NoneDerives}
-use Rattle.av_reader.proofs.Steps.{finished}
-use Rattle.av_reader.proofs.OneDerivation.{one-derivation}
-use Rattle.av_reader.proofs.Refusals.{more-needed, end-doomed}
-use Rattle.av_reader.proofs.machine.Machine.finish.Goals as goal
+use Rattle.av_derive.specs.declared.machine.Limits.{Limits}
+use Rattle.av_derive.specs.Derivation.{NoneDerives}
+use Rattle.av_derive.proofs.Steps.{finished}
+use Rattle.av_derive.proofs.OneDerivation.{one-derivation}
+use Rattle.av_derive.proofs.Refusals.{more-needed, end-doomed}
+use Rattle.av_derive.proofs.machine.Machine.finish.Goals as goal
 
 pub returns-else-self-clause-derived : goal.returns-else-self-clause-derived
 returns-else-self-clause-derived c =

@@ -16,9 +16,9 @@ use Rattle.av_tree.specs.declared.table.Rule.{Rule}
 use Rattle.av_tree.specs.Table.{symbols_of, name_of}
 use Rattle.av_tree.specs.Classes.{fits_of, bracket_of}
 use Rattle.av_tree.specs.Signs.{begins_expression, counts_sign}
-use Rattle.av_reader.specs.declared.machine.Event.{Event}
-use Rattle.av_reader.specs.declared.machine.Event.TheVariants as event
-use Rattle.av_reader.specs.declared.machine.Limits.{Limits}
+use Rattle.av_derive.specs.declared.machine.Event.{Event}
+use Rattle.av_derive.specs.declared.machine.Event.TheVariants as event
+use Rattle.av_derive.specs.declared.machine.Limits.{Limits}
 
 -- From the left, the symbols give tokens of these classes by these events, where n is the number of
 -- the first of the tokens. A sign or a word gives itself; a test gives a token that fits it, and that
