@@ -1,2 +1,4 @@
+pub mod ClassOf
 pub mod Derivation
 pub mod State
+pub mod WordLengths
