@@ -1,6 +1,8 @@
 //! The command over devices in memory.
 ghost use Rattle.std.specs.Prelude.{◌<◌};
 
+mod forms;
+
 use crate::{Status, affvec};
 use av_io::{MemSink, MemSource};
 use std::alloc::{AllocError, Global};
