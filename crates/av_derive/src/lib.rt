@@ -11,3 +11,6 @@ mod machine;
 pub use classes::{class_of, classes_of, spelling_of};
 pub use derivation::{Refused, derive};
 pub use machine::{Event, Limits, Stop};
+
+#[cfg(test)]
+mod tests;
