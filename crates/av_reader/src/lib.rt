@@ -7,3 +7,6 @@ mod building;
 mod reading;
 
 pub use reading::{LIMITS, ReadRefusal, read};
+
+#[cfg(test)]
+mod tests;
