@@ -1,5 +1,9 @@
 //! Properties and attributes, which are one list of entries.
 
+ghost use Rattle.std.specs.Prelude.{◌≡◌};
+ghost use Rattle.std.specs.Option.{option_copied};
+ghost use Rattle.av_verify.specs.Entries.{entry_of, first_of, map_of, mark_number_of, number_of};
+
 use super::refusal::{Code, VerifyRefusal, ask};
 use super::rows::{Row, mark_of, properties_of};
 use av_affine::No;
@@ -7,22 +11,29 @@ use av_ir::Marks;
 use av_tree::{Attr, MapText, Named, Node, TypeText};
 
 /// The value of an operation's entry of this name, if it has one.
-pub(crate) fn entry<'t>(node: &'t Node, name: &[u8]) -> Option<&'t Attr> {
-    for entry in node.properties.as_slice() {
-        if entry.name.as_slice() == name {
-            return Some(&entry.value);
-        }
+pub(crate) fn entry<'t>(node: &'t Node, name: &[u8]) -> Option<&'t Attr>
+    ensures { option_copied result ≡ entry_of name.now node.now }
+{
+    let among_properties = first(node.properties.as_slice(), name);
+    if among_properties.is_some() {
+        among_properties
+    } else {
+        first(node.attrs.as_slice(), name)
     }
-    for entry in node.attrs.as_slice() {
-        if entry.name.as_slice() == name {
-            return Some(&entry.value);
-        }
-    }
-    None
+}
+
+// The value of the first entry of this name.
+fn first<'t>(entries: &'t [Named], name: &[u8]) -> Option<&'t Attr>
+    ensures { option_copied result ≡ first_of name.now entries.now }
+{
+    let found = entries.iter().find(|entry| entry.name.as_slice() == name)?;
+    Some(&found.value)
 }
 
 /// The number in an entry, of whatever type.
-pub(crate) fn number_in(node: &Node, name: &[u8]) -> Option<i128> {
+pub(crate) fn number_in(node: &Node, name: &[u8]) -> Option<i128>
+    ensures { result ≡ number_of (entry_of name.now node.now) }
+{
     match entry(node, name) {
         Some(Attr::Number { value, .. }) => Some(*value),
         _ => None,
@@ -30,7 +41,9 @@ pub(crate) fn number_in(node: &Node, name: &[u8]) -> Option<i128> {
 }
 
 /// The map in an entry, written out.
-pub(crate) fn map_in<'t>(node: &'t Node, name: &[u8]) -> Option<&'t MapText> {
+pub(crate) fn map_in<'t>(node: &'t Node, name: &[u8]) -> Option<&'t MapText>
+    ensures { option_copied result ≡ map_of (entry_of name.now node.now) }
+{
     match entry(node, name) {
         Some(Attr::Map(map)) => Some(map),
         _ => None,
@@ -38,7 +51,9 @@ pub(crate) fn map_in<'t>(node: &'t Node, name: &[u8]) -> Option<&'t MapText> {
 }
 
 /// The number of a mark: one of type i64 from 0 to 2^64 - 1.
-pub(crate) fn mark_number(value: &Attr) -> Option<No> {
+pub(crate) fn mark_number(value: &Attr) -> Option<No>
+    ensures { result ≡ mark_number_of value.now }
+{
     match value {
         Attr::Number {
             value,

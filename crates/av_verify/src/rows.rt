@@ -1,5 +1,8 @@
 //! The operations that are known, and the properties of each.
 
+ghost use Rattle.std.specs.Prelude.{◌≡◌};
+ghost use Rattle.av_verify.specs.Rows.{mark_name};
+
 use av_bits::BinOp;
 
 /// An operation by its name.
@@ -49,7 +52,9 @@ pub(crate) fn properties_of(row: Row) -> &'static [&'static [u8]] {
 }
 
 /// The mark that may stand on an operation, with a number; empty where there is none.
-pub(crate) fn mark_of(row: Row) -> &'static [u8] {
+pub(crate) fn mark_of(row: Row) -> &'static [u8]
+    ensures { result.now ≡ mark_name row }
+{
     match row {
         Row::Loop => b"affvec.loop",
         Row::Load | Row::Store => b"affvec.of",
