@@ -1,7 +1,7 @@
 //! Rows of maps and expressions, and of subscripts, which are expressions with values for names.
 
 use super::attributes::{integer_of, text_before};
-use super::stack::{Fault, Stack, before, in_order};
+use super::stack::{Fault, Stack, in_order};
 use super::value::{Expression, LeafKind, Operator, Parameters, Part, Value};
 use av_affine::{Held, Seq, Text};
 use av_tree::table::{MapRule, SubscriptRule};
@@ -22,7 +22,7 @@ pub(super) fn reduce_map(stack: &mut Stack, rule: MapRule) -> Result<(), Fault> 
         MapRule::WrittenSymbolNames | MapRule::PlainFactor => Ok(()),
         MapRule::FirstWord | MapRule::NextWord => text_before(stack),
         MapRule::NoExpressions | MapRule::NoMoreExpressions => {
-            stack.push(Value::Expressions(Vec::new(stack.alloc())))
+            stack.push(Value::Expressions(Seq::new(stack.alloc())))
         }
         MapRule::FirstExpression | MapRule::NextExpression => expression_before(stack),
         MapRule::WholeExpression | MapRule::WholeTerm | MapRule::InBrackets => joined(stack),
@@ -37,7 +37,7 @@ pub(super) fn reduce_map(stack: &mut Stack, rule: MapRule) -> Result<(), Fault> 
         MapRule::NegatedBase => negated(stack),
         MapRule::ParameterName | MapRule::DivisionName => {
             let name = stack.text()?;
-            let leaves = Vec::new(stack.alloc());
+            let leaves = Seq::new(stack.alloc());
             stack.push(Value::Expression(Expression {
                 expr: ExprText::Name(name),
                 leaves,
@@ -49,7 +49,7 @@ pub(super) fn reduce_map(stack: &mut Stack, rule: MapRule) -> Result<(), Fault> 
 pub(super) fn reduce_subscript(stack: &mut Stack, rule: SubscriptRule) -> Result<(), Fault> {
     match rule {
         SubscriptRule::NoSubscripts | SubscriptRule::NoMoreSubscripts => {
-            stack.push(Value::Expressions(Vec::new(stack.alloc())))
+            stack.push(Value::Expressions(Seq::new(stack.alloc())))
         }
         SubscriptRule::FirstSubscript | SubscriptRule::NextSubscript => expression_before(stack),
         SubscriptRule::WholeSubscript
@@ -83,7 +83,7 @@ fn written_map(stack: &mut Stack) -> Result<(), Fault> {
 }
 
 // The expressions alone, in the order of the text.
-fn results_of(alloc: Global, mut expressions: Vec<Expression>) -> Result<Seq<ExprText>, Fault> {
+fn results_of(alloc: Global, mut expressions: Seq<Expression>) -> Result<Seq<ExprText>, Fault> {
     let mut results = Seq::new(alloc);
     while let Some(expression) = expressions.pop() {
         results.push(expression.expr)?;
@@ -93,18 +93,20 @@ fn results_of(alloc: Global, mut expressions: Vec<Expression>) -> Result<Seq<Exp
 
 fn expression_before(stack: &mut Stack) -> Result<(), Fault> {
     let expression = stack.expression()?;
-    let others = stack.expressions()?;
-    stack.push(Value::Expressions(before(expression, others)?))
+    let mut others = stack.expressions()?;
+    others.push(expression)?;
+    stack.push(Value::Expressions(others))
 }
 
 fn no_parts(stack: &mut Stack) -> Result<(), Fault> {
-    stack.push(Value::Parts(Vec::new(stack.alloc())))
+    stack.push(Value::Parts(Seq::new(stack.alloc())))
 }
 
 fn part_before(stack: &mut Stack, operator: Operator) -> Result<(), Fault> {
     let right = stack.expression()?;
-    let others = stack.parts()?;
-    stack.push(Value::Parts(before(Part { operator, right }, others)?))
+    let mut others = stack.parts()?;
+    others.push(Part { operator, right })?;
+    stack.push(Value::Parts(others))
 }
 
 fn division_before(stack: &mut Stack) -> Result<(), Fault> {
@@ -122,7 +124,7 @@ fn division(word: &Text) -> Operator {
 
 fn constant(stack: &mut Stack, negative: bool) -> Result<(), Fault> {
     let value = integer_of(&stack.text()?, negative);
-    let leaves = Vec::new(stack.alloc());
+    let leaves = Seq::new(stack.alloc());
     stack.push(Value::Expression(Expression {
         expr: ExprText::Const(value),
         leaves,
@@ -140,7 +142,8 @@ fn negated(stack: &mut Stack) -> Result<(), Fault> {
 
 fn leaf(stack: &mut Stack, kind: LeafKind) -> Result<(), Fault> {
     let name = stack.text()?;
-    let leaves = before(kind, Vec::new(stack.alloc()))?;
+    let mut leaves = Seq::new(stack.alloc());
+    leaves.push(kind)?;
     stack.push(Value::Expression(Expression {
         expr: ExprText::Name(name),
         leaves,
@@ -163,9 +166,9 @@ fn join(alloc: Global, left: Expression, part: Part) -> Result<Expression, Fault
     let Part { operator, right } = part;
     let Expression {
         expr: right,
-        leaves: mut more,
+        leaves: more,
     } = right;
-    leaves.append(&mut more)?;
+    leaves.append(more)?;
     let left = Held::new(alloc, expr)?;
     let right = Held::new(alloc, right)?;
     let expr = match operator {

@@ -47,8 +47,8 @@ pub(super) struct Stack {
     entry_lists: Vec<Vec<Named>>,
     parameters: Vec<Parameters>,
     expressions: Vec<Expression>,
-    expression_lists: Vec<Vec<Expression>>,
-    part_lists: Vec<Vec<Part>>,
+    expression_lists: Vec<Seq<Expression>>,
+    part_lists: Vec<Seq<Part>>,
     map_uses: Vec<MapUse>,
     carried: Vec<Carried>,
 }
@@ -184,11 +184,11 @@ impl Stack {
         pop(&mut self.expressions)
     }
 
-    pub(super) fn expressions(&mut self) -> Result<Vec<Expression>, Fault> {
+    pub(super) fn expressions(&mut self) -> Result<Seq<Expression>, Fault> {
         pop(&mut self.expression_lists)
     }
 
-    pub(super) fn parts(&mut self) -> Result<Vec<Part>, Fault> {
+    pub(super) fn parts(&mut self) -> Result<Seq<Part>, Fault> {
         pop(&mut self.part_lists)
     }
 
