@@ -1,7 +1,7 @@
 //! Rows of operations of the Affine dialect.
 
-use super::attributes::integer_of;
 use super::files::push_node;
+use super::numbers::integer_of;
 use super::regions::plain_node;
 use super::stack::{Fault, Stack, in_order, text_of};
 use super::subscripts::{Numbering, place_map};

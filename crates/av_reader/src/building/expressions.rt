@@ -1,12 +1,13 @@
 //! Rows of maps and expressions, and of subscripts, which are expressions with values for names.
 
-use super::attributes::{integer_of, text_before};
+use super::attributes::text_before;
+use super::joining::{division, joined, results_of};
+use super::numbers::integer_of;
 use super::stack::{Fault, Stack, in_order};
 use super::value::{Expression, LeafKind, Operator, Parameters, Part, Value};
-use av_affine::{Held, Seq, Text};
+use av_affine::{Held, Seq};
 use av_tree::table::{MapRule, SubscriptRule};
 use av_tree::{Attr, ExprText, MapText};
-use std::alloc::Global;
 
 pub(super) fn reduce_map(stack: &mut Stack, rule: MapRule) -> Result<(), Fault> {
     match rule {
@@ -25,7 +26,7 @@ pub(super) fn reduce_map(stack: &mut Stack, rule: MapRule) -> Result<(), Fault> 
             stack.push(Value::Expressions(Seq::new(stack.alloc())))
         }
         MapRule::FirstExpression | MapRule::NextExpression => expression_before(stack),
-        MapRule::WholeExpression | MapRule::WholeTerm | MapRule::InBrackets => joined(stack),
+        MapRule::WholeExpression | MapRule::WholeTerm | MapRule::InBrackets => whole(stack),
         MapRule::NoMoreTerms | MapRule::NoMoreFactors => no_parts(stack),
         MapRule::PlusTerm => part_before(stack, Operator::Add),
         MapRule::MinusTerm => part_before(stack, Operator::Sub),
@@ -54,7 +55,7 @@ pub(super) fn reduce_subscript(stack: &mut Stack, rule: SubscriptRule) -> Result
         SubscriptRule::FirstSubscript | SubscriptRule::NextSubscript => expression_before(stack),
         SubscriptRule::WholeSubscript
         | SubscriptRule::WholeSubscriptTerm
-        | SubscriptRule::SubscriptInBrackets => joined(stack),
+        | SubscriptRule::SubscriptInBrackets => whole(stack),
         SubscriptRule::NoMoreSubscriptTerms | SubscriptRule::NoMoreSubscriptFactors => no_parts(
             stack,
         ),
@@ -82,15 +83,6 @@ fn written_map(stack: &mut Stack) -> Result<(), Fault> {
     stack.push(Value::Attr(Attr::Map(map)))
 }
 
-// The expressions alone, in the order of the text.
-fn results_of(alloc: Global, mut expressions: Seq<Expression>) -> Result<Seq<ExprText>, Fault> {
-    let mut results = Seq::new(alloc);
-    while let Some(expression) = expressions.pop() {
-        results.push(expression.expr)?;
-    }
-    Ok(results)
-}
-
 fn expression_before(stack: &mut Stack) -> Result<(), Fault> {
     let expression = stack.expression()?;
     let mut others = stack.expressions()?;
@@ -112,14 +104,6 @@ fn part_before(stack: &mut Stack, operator: Operator) -> Result<(), Fault> {
 fn division_before(stack: &mut Stack) -> Result<(), Fault> {
     let operator = division(&stack.text()?);
     part_before(stack, operator)
-}
-
-fn division(word: &Text) -> Operator {
-    match word.as_slice() {
-        b"floordiv" => Operator::Floor,
-        b"ceildiv" => Operator::Ceil,
-        _ => Operator::Mod,
-    }
 }
 
 fn constant(stack: &mut Stack, negative: bool) -> Result<(), Fault> {
@@ -151,33 +135,10 @@ fn leaf(stack: &mut Stack, kind: LeafKind) -> Result<(), Fault> {
 }
 
 // The expression on top with the parts under it, joined from the left.
-fn joined(stack: &mut Stack) -> Result<(), Fault> {
+fn whole(stack: &mut Stack) -> Result<(), Fault> {
     let alloc = stack.alloc();
-    let mut whole = stack.expression()?;
-    let mut parts = stack.parts()?;
-    while let Some(part) = parts.pop() {
-        whole = join(alloc, whole, part)?;
-    }
+    let first = stack.expression()?;
+    let parts = stack.parts()?;
+    let whole = joined(alloc, first, parts)?;
     stack.push(Value::Expression(whole))
-}
-
-fn join(alloc: Global, left: Expression, part: Part) -> Result<Expression, Fault> {
-    let Expression { expr, mut leaves } = left;
-    let Part { operator, right } = part;
-    let Expression {
-        expr: right,
-        leaves: more,
-    } = right;
-    leaves.append(more)?;
-    let left = Held::new(alloc, expr)?;
-    let right = Held::new(alloc, right)?;
-    let expr = match operator {
-        Operator::Add => ExprText::Add(left, right),
-        Operator::Sub => ExprText::Sub(left, right),
-        Operator::Mul => ExprText::Mul(left, right),
-        Operator::Mod => ExprText::Mod(left, right),
-        Operator::Floor => ExprText::Floor(left, right),
-        Operator::Ceil => ExprText::Ceil(left, right),
-    };
-    Ok(Expression { expr, leaves })
 }
