@@ -20,16 +20,16 @@ use Rattle.av_lex.proofs.BadBytes.{digits_longest, name_longest, quoted_longest}
 use Rattle.av_written.specs.Spacing.{begins_with, closes_size, goes_on_as_size, lengthens_sign, lengthens}
 
 -- ---- a text and what follows it
-front : (text rest : List ℕ) (i : ℕ) → i < length text → slice_index (text ++ rest) i ≡ slice_index text i
+pub front : (text rest : List ℕ) (i : ℕ) → i < length text → slice_index (text ++ rest) i ≡ slice_index text i
 front text rest i below = get_or_append_left text rest 0 i below
 
-next : (text rest : List ℕ) → slice_index (text ++ rest) (length text) ≡ slice_index rest 0
+pub next : (text rest : List ℕ) → slice_index (text ++ rest) (length text) ≡ slice_index rest 0
 next text rest = get_or-append_right text rest (length text) (length text) 0 refl (omega arith) ∙ ap (λ (k : ℕ). slice_index rest k) (omega arith)
 
-whole : (text rest : List ℕ) → length text ≤ length (text ++ rest)
+pub whole : (text rest : List ℕ) → length text ≤ length (text ++ rest)
 whole text rest = omega (arith, length-append text rest)
 
-run_front : (class : Class) (text rest : List ℕ) (a b : ℕ) → b ≤ length text → Run class text a b → Run class (text ++ rest) a b
+pub run_front : (class : Class) (text rest : List ℕ) (a b : ℕ) → b ≤ length text → Run class text a b → Run class (text ++ rest) a b
 run_front class text rest a b within run i from below =
     ap (in_class class) (front text rest i (omega arith)) ∙ run i from below
 
@@ -165,7 +165,7 @@ no_close : (byte : ℕ) (rest : List ℕ) → closes_size (byte ∷ rest) ≡ fa
 no_close byte [] h inside close x = absurd (omega arith)
 no_close byte (next ∷ rest) h inside close x = absurd (grind (arith, nat_tests))
 
-size_stops : (byte : ℕ) (rest : List ℕ) → in_class classes.Digit byte ≡ true → goes_on_as_size (byte ∷ rest) ≡ goes_on_as_size rest
+pub size_stops : (byte : ℕ) (rest : List ℕ) → in_class classes.Digit byte ≡ true → goes_on_as_size (byte ∷ rest) ≡ goes_on_as_size rest
 unfolding goes_on_as_size
 size_stops byte rest h = rw h
 

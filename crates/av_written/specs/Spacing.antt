@@ -1,5 +1,5 @@
 -- The words of pieces as tokens, and where what follows a word can't be taken for more of it.
-use Rattle.std.specs.Prelude.{ℕ, ◌+◌, ◌≡◌, ◌==◌, ◌||◌, Bool, false, List, [], ◌∷◌, ◌++◌, length, if◌then◌else◌}
+use Rattle.std.specs.Prelude.{ℕ, ◌+◌, ◌≡◌, ◌==◌, ◌||◌, Bool, true, false, not, List, [], ◌∷◌, ◌++◌, length, if◌then◌else◌}
 use Rattle.av_lex.specs.declared.token.Kind.{Kind}
 use Rattle.av_lex.specs.declared.token.Kind.TheVariants as kinds
 use Rattle.av_lex.specs.declared.token.Sign.{Sign}
@@ -54,6 +54,11 @@ lengthens kinds.DimX rest = false
 lengthens kinds.ScalX rest = false
 lengthens kinds.Quoted rest = false
 lengthens (kinds.Sign s) rest = lengthens_sign s rest
+
+-- a text is empty, or begins with a byte that lengthens no word before it but `-` and `[`
+abbrev pub begins_apart : List ℕ → Bool
+begins_apart [] = true
+begins_apart (byte ∷ rest) = not (in_class classes.Name byte || (byte == 61))
 
 -- a text is, whole, a token of the kind
 pub record IsWord (kind : Kind) (text : List ℕ) : Type 0 where
