@@ -1,0 +1,5 @@
+pub mod Longest
+pub mod Lexing
+pub mod Parts
+pub mod Words
+pub mod TypeParts

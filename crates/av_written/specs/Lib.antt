@@ -1,0 +1,3 @@
+pub mod Spacing
+pub mod ReadTypes
+pub mod WrittenLaws

@@ -1,0 +1,21 @@
+//! What holds of pieces that are written and read again, for the proofs of callers. These functions do nothing.
+//!
+//! A spelling that is read again has exactly the tokens that were spelled.
+#![tactic(auto)]
+
+ghost use Rattle.av_written.specs.WrittenLaws.{TokensLaw, PartsLaw, TypesLaw};
+
+/// The tokens of what spaced pieces spell are their words.
+pub fn words_are_tokens()
+    ensures { TokensLaw }
+{}
+
+/// Pieces are spaced if their first part is before the second, and the second is.
+pub fn spacing_goes_by_parts()
+    ensures { PartsLaw }
+{}
+
+/// The pieces of a type that was read are spaced before each text that begins apart.
+pub fn types_are_spaced()
+    ensures { TypesLaw }
+{}
