@@ -1,25 +1,29 @@
 -- Where a limit alone makes a token wrong, and which tokens are counted.
-use Rattle.std.proofs.Common.{◌≡◌, ◌≢◌, ℕ, ◌+◌, ◌<◌, ◌≤◌, ◌⊎◌, inl, inr, Bool, true, false, ◌||◌, List, [], ◌∷◌, ◌++◌, Some, None, length, reverse, take, get_or, refl, sym, ◌∙◌, subst, arith, append_assoc}
+use Rattle.std.proofs.Common.{◌≡◌, ◌≢◌, ℕ, ◌+◌, ◌<◌, ◌≤◌, ◌⊎◌, inl, inr, Bool, true, false, ◌||◌, List, [], ◌∷◌, ◌++◌, Some, None, length, reverse, take, get_or, refl, sym, ◌∙◌, subst, arith, append_assoc, cond, ap, drop}
 use Rattle.std.proofs.lemmas.Bool.{false≢true}
 use Rattle.av_tree.specs.declared.class.Class.{Class}
 use Rattle.av_tree.specs.declared.class.Class.TheVariants as class
+use Rattle.av_tree.specs.declared.class.Bracket.{Bracket}
 use Rattle.av_tree.specs.declared.class.Bracket.TheVariants as bracket
 use Rattle.av_tree.specs.declared.table.Symbol.{Symbol}
 use Rattle.av_tree.specs.declared.table.Symbol.TheVariants as symbol
 use Rattle.av_tree.specs.declared.table.Name.{Name}
 use Rattle.av_tree.specs.declared.table.Rule.{Rule}
-use Rattle.av_tree.specs.Table.{symbols_of, name_of}
+use Rattle.av_tree.specs.Table.{symbols_of, name_of, choice_of}
 use Rattle.av_tree.specs.Classes.{bracket_of}
 use Rattle.av_tree.specs.Needs.{need_of}
-use Rattle.av_tree.specs.Signs.{counts_sign}
+use Rattle.av_tree.specs.Signs.{begins_expression, counts_sign}
 use Rattle.av_derive.specs.declared.machine.Event.{Event}
 use Rattle.av_derive.specs.declared.machine.Event.TheVariants as event
+use Rattle.av_derive.specs.declared.machine.Limits.{Limits}
 use Rattle.av_derive.specs.declared.machine.Machine.{Machine}
-use Rattle.av_derive.specs.Derivation.{Derives, DerivesFile, IsDeepAt, IsPlainAt, CountsAt, nothing_left, by_sign, by_word, by_token, by_row}
-use Rattle.av_derive.specs.State.{Room, Earlier, Flagged, Expanded, Fits, spelled}
+use Rattle.av_derive.specs.Derivation.{Derives, DerivesFile, IsDeepAt, IsPlainAt, CountsAt, WithinBrackets, signs_with, nothing_left, by_sign, by_word, by_token, by_row}
+use Rattle.av_derive.specs.State.{Room, Earlier, Flagged, Expanded, Fits, spelled, Only, Continues, Told, Barren, ahead, open_after}
 use Rattle.av_derive.proofs.Balance.{room-row}
 use Rattle.av_derive.proofs.Completion.{completion}
-use Rattle.av_derive.proofs.Steps.{leads-token, next_off, row_on}
+use Rattle.av_derive.proofs.Calm.{calm}
+use Rattle.av_derive.proofs.OneDerivation.{chosen, starts-row, next-comes}
+use Rattle.av_derive.proofs.Steps.{leads-token, next_off, row_on, open-bound}
 use Rattle.av_derive.proofs.Refusals.{token-goes-on, nothing-more, next-class}
 
 pub stack-room : (most d : ℕ) (x : Name) (items popped after : List Symbol) (r : Rule) → items ≡ popped ++ symbol.Rows x ∷ [] → name_of r ≡ x
@@ -100,6 +104,39 @@ uncounted-token n (symbol.Word s) k c = c
 uncounted-token n (symbol.Token s) k c = c
 uncounted-token n (symbol.Rows s) k c = c
 
+row-is-calm : {n : ℕ} {x : Name} {ss : List Symbol} {cs : List Class} {rest : List Event} (r : Rule) → Told (symbol.Rows x ∷ ss)
+    → choice_of x (ahead cs) ≡ r → bracket_of (ahead cs) ≡ bracket.Closes → Derives n (symbol.Rows x ∷ ss) cs rest → (need_of r ≡ 0) × (counts_sign r ≡ false)
+row-is-calm {n} {x} {ss} {cs} r told e closes (by_row r' e' d) =
+    let same : r' ≡ r = sym (chosen r' x ss (ahead cs) e' told (next-comes d)) ∙ e in
+    let k : (need_of r' ≡ 0) × (counts_sign r' ≡ false) = calm r' (ahead cs) closes (starts-row r' x ss (ahead cs) e' told (next-comes d)) in
+    subst (λ (q : Rule). (need_of q ≡ 0) × (counts_sign q ≡ false)) same k
+
+few-signs : (r : Rule) (s most : ℕ) → counts_sign r ≡ false → s ≤ most → signs_with r s ≤ most
+few-signs r s most e h = rw e (by (begins_expression r) s most h)
+  where
+    by : (begins : Bool) (s most : ℕ) → s ≤ most → cond begins 0 s + 0 ≤ most
+    by true s most h = omega arith
+    by false s most h = omega arith
+
+-- Before a closing bracket no row passes a limit, unless the bracket is wrong anyway.
+pub row-barren : (limits : Limits) (n : ℕ) (taken : List Class) (events : List Event) (x : Name) (items popped : List Symbol) (r : Rule) (c : Class) (depth signs : ℕ)
+    → items ≡ popped ++ symbol.Rows x ∷ [] → choice_of x c ≡ r → Only n taken events (reverse items) c → Told (reverse items)
+    → depth ≤ limits.brackets → signs ≤ limits.signs → (depth + need_of r ≤ limits.brackets → signs_with r signs ≤ limits.signs → ⊥)
+    → bracket_of c ≡ bracket.Closes → Barren taken c
+row-barren limits n taken events x items popped r c depth signs e chose o told low few refused closes cs es q d =
+    let o' : Only n taken events (symbol.Rows x ∷ reverse popped) c = rw (e, next_off popped (symbol.Rows x)) at o in
+    let told' : Told (symbol.Rows x ∷ reverse popped) = rw (e, next_off popped (symbol.Rows x)) at told in
+    let k : Continues n (symbol.Rows x ∷ reverse popped) cs events es = o'.only cs es q d in
+    let calm' : (need_of r ≡ 0) × (counts_sign r ≡ false) = row-is-calm r told' (ap (choice_of x) q ∙ chose) (ap bracket_of q ∙ closes) k.derives in
+    let needs : need_of r ≡ 0 = calm'.0 in
+    refused (omega arith) (few-signs r signs limits.signs calm'.1 few)
+
+pub low : (most depth : ℕ) (taken : List Class) → depth ≡ open_after 0 taken → WithinBrackets most 0 taken → depth ≤ most
+low most depth taken e w = rw e (open-bound most 0 taken (omega arith) w)
+
+opens-bracket : (c : Class) → bracket_of c ≡ bracket.Opens → bracket_of c ≢ bracket.None
+opens-bracket c e f = absurd (cc)
+
 -- A token that fits, and opens a bracket or is counted, goes on a derivation but for the limits.
 pub token-deep : (m : Machine) (s : Symbol) (c : Class) (cs : List Class) (n : ℕ) → n < length cs → get_or cs n class.End ≡ c
     → take (n + 1) cs ≡ take n cs ++ c ∷ [] → Expanded m (Some s) cs n → Fits s c → (m.counted ≡ true) ⊎ (bracket_of c ≡ bracket.Opens) → IsDeepAt cs n
@@ -113,21 +150,29 @@ token-deep m s c cs n h at more x fits why =
       derives = rw more (l.whole done.more done.events done.derives);
       deep = elim why [
         | inl counted ↦ inr (counts-front n (m.events.items ++ spelled s n) done.events (counts-front n m.events.items (spelled s n) (x.flag.counts counted)))
-        | inr opens ↦ inl (rw at opens)
+        | inr opens ↦ inl (rw at (opens-bracket c opens))
       ];
     }
 
--- What is refused as plainly wrong doesn't fit, or opens no bracket and isn't counted.
+which-bracket : (b : Bracket) → b ≢ bracket.None → b ≢ bracket.Opens → b ≡ bracket.Closes
+which-bracket bracket.Opens f g = absurd (g refl)
+which-bracket bracket.Closes f g = refl
+which-bracket bracket.None f g = absurd (f refl)
+
+-- What is refused as plainly wrong doesn't fit, or is no bracket and isn't counted.
 pub token-plain : (m : Machine) (s : Symbol) (c : Class) (cs : List Class) (n : ℕ) → n < length cs → get_or cs n class.End ≡ c
     → take (n + 1) cs ≡ take n cs ++ c ∷ [] → Expanded m (Some s) cs n
-    → (Fits s c → (m.counted ≡ false) × (bracket_of c ≢ bracket.Opens)) → IsPlainAt cs n
+    → (Fits s c → (m.counted ≡ false) × (bracket_of c ≢ bracket.Opens) × (m.over ≡ true)) → IsPlainAt cs n
 token-plain m s c cs n h at more x refused d =
     let whole : DerivesFile (take n cs ++ (c ∷ d.more)) d.events = rw (more, append_assoc) at d.derives in
-    let k = x.only.only (c ∷ d.more) d.events (sym at ∙ next-class cs n class.End h) whole in
+    let q : c ≡ ahead (drop n cs) = sym at ∙ next-class cs n class.End h in
+    let k = x.only.only (c ∷ d.more) d.events q whole in
     let g = token-goes-on x.no_name k.derives in
-    let plain : (m.counted ≡ false) × (bracket_of c ≢ bracket.Opens) = refused g.0 in
+    let plain : (m.counted ≡ false) × (bracket_of c ≢ bracket.Opens) × (m.over ≡ true) = refused g.0 in
     elim d.deep [
-      | inl opens ↦ plain.1 (rw at at opens)
+      | inl is ↦
+          let closes : bracket_of c ≡ bracket.Closes = which-bracket (bracket_of c) (rw at at is) plain.1 in
+          x.barren plain.2 (ap bracket_of (sym q) ∙ closes) (c ∷ d.more) d.events q whole
       | inr counts ↦ elim (counts-parts n m.events.items k.rest (rw k.splits at counts)) [
         | inl a ↦ x.flag.plain plain.0 a
         | inr b ↦ elim (counts-parts n (spelled s n) g.1.rest (rw g.1.splits at b)) [

@@ -5,5 +5,6 @@ pub mod Refusals
 pub mod Shortest
 pub mod Balance
 pub mod Completion
+pub mod Calm
 pub mod Deep
 pub mod Keywords

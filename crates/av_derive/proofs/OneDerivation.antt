@@ -73,12 +73,16 @@ before-append xs ss x c f h =
       | inr s ↦ or-right (starts xs c) (not (has_token xs) && has (follow_of x) c) (and-both (not (has_token xs)) (has (follow_of x) c) s.0 (f s.1))
     ]
 
+-- A row that goes on begins as its table has it.
+pub starts-row : (r : Rule) (x : Name) (ss : List Symbol) (c : Class) → name_of r ≡ x → Told (symbol.Rows x ∷ ss)
+    → IsTrue (comes_next (symbols_of r ++ ss) c) → IsTrue (starts_before (symbols_of r) (name_of r) c)
+starts-row r x ss c e told h =
+    before-append (symbols_of r) ss (name_of r) c (subst (λ (y : Name). IsTrue (comes_next ss c) → IsTrue (has (follow_of y) c)) (sym e) (told.0 c)) h
+
 -- The row of the name that stands next is the one that is chosen.
 pub chosen : (r : Rule) (x : Name) (ss : List Symbol) (c : Class) → name_of r ≡ x → Told (symbol.Rows x ∷ ss)
     → IsTrue (comes_next (symbols_of r ++ ss) c) → choice_of x c ≡ r
-chosen r x ss c e told h =
-    subst (λ (y : Name). choice_of y c ≡ r) e
-    (choice-of-row r c (before-append (symbols_of r) ss (name_of r) c (subst (λ (y : Name). IsTrue (comes_next ss c) → IsTrue (has (follow_of y) c)) (sym e) (told.0 c)) h))
+chosen r x ss c e told h = subst (λ (y : Name). choice_of y c ≡ r) e (choice-of-row r c (starts-row r x ss c e told h))
 
 told-append : (x : Name) (xs ss : List Symbol) → ((c : Class) → IsTrue (follows xs x c)) → ((c : Class) → IsTrue (comes_next ss c) → IsTrue (has (follow_of x) c)) → Told ss → Told (xs ++ ss)
 told-append x [] ss f g told = told

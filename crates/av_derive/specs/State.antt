@@ -42,6 +42,10 @@ pub record Only (n : ℕ) (taken : List Class) (events : List Event) (symbols : 
 abbrev pub Doomed : Limits → List Class → Class → Type 0
 Doomed limits taken next = (cs : List Class) (es : List Event) → ahead cs ≡ next → Derived limits (taken ++ cs) es → ⊥
 
+-- Nothing that begins with what was taken and this class is derived, within the limits or not.
+abbrev pub Barren : List Class → Class → Type 0
+Barren taken next = (cs : List Class) (es : List Event) → ahead cs ≡ next → DerivesFile (taken ++ cs) es → ⊥
+
 -- whether a token of the class, or the end, can come next where these symbols are left
 abbrev pub comes_next : List Symbol → Class → Bool
 comes_next [] c = is_same_class class.End c
@@ -150,6 +154,7 @@ pub record Expanded (m : Machine) (next : Option Symbol) (cs : List Class) (n : 
   pub room : m.over ≡ false → Room m.limits.brackets m.depth (with_next next (reverse m.stack.items))
   pub earlier : Earlier (n + 1) m.events.items
   pub flag : Flagged m.counted n m.events.items
+  pub barren : m.over ≡ true → bracket_of (ahead (drop n cs)) ≡ bracket.Closes → Barren (take n cs) (ahead (drop n cs))
 
 -- What taking a token does where this symbol asks for one.
 pub record Shifted (old new : Machine) (s : Symbol) (c : Class) (n : ℕ) : Type 0 where

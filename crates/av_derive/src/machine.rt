@@ -35,7 +35,7 @@ pub enum Event {
 pub enum Stop {
     /// The token goes on no derivation.
     Wrong,
-    /// A limit alone makes the token wrong, and it opens a bracket or is a counted sign.
+    /// A limit alone makes the token wrong, and it is a bracket or a counted sign or word.
     TooDeep,
     NoMemory,
 }
@@ -204,7 +204,7 @@ impl Machine {
         ensures shifted { OnOk result (Shifted self.old self.new symbol class at) }
         ensures wrong { IfErr result (λ stop. Fits symbol class → self.old.over ≡ false → opened (bracket_of_class class) self.old.depth ≤ self.old.limits.brackets → stop ≡ Stop.NoMemory) }
         ensures deep { IfErr result (λ stop. stop ≡ Stop.TooDeep → Fits symbol class × ((self.old.counted ≡ true) ⊎ (bracket_of_class class ≡ Bracket.Opens))) }
-        ensures plain { IfErr result (λ stop. stop ≡ Stop.Wrong → Fits symbol class → (self.old.counted ≡ false) × (bracket_of_class class ≢ Bracket.Opens)) }
+        ensures plain { IfErr result (λ stop. stop ≡ Stop.Wrong → Fits symbol class → (self.old.counted ≡ false) × (bracket_of_class class ≢ Bracket.Opens) × (self.old.over ≡ true)) }
     {
         let (fitting, spelled) = match symbol {
             Symbol::Sign(sign) => (class == Class::Sign(sign), false),

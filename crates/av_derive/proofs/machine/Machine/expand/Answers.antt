@@ -1,12 +1,13 @@
 -- A row goes on the stack in place of its name, and among the events.
-use Rattle.std.proofs.Common.{◌∙◌, refl, arith, sym, ap, ◌++◌, ◌∷◌, [], inl, inr, reverse, true, false, Bool, ◌≡◌}
+use Rattle.std.proofs.Common.{◌∙◌, refl, arith, sym, ap, ◌++◌, ◌∷◌, [], inl, inr, reverse, take, true, false, Bool, ◌≡◌}
 use Rattle.std.proofs.lemmas.Bool.{cases_Bool}
 use Rattle.std.proofs.lemmas.List.{append-nil}
 use Rattle.av_tree.specs.declared.table.Symbol.TheVariants as symbol
 use Rattle.av_tree.specs.Table.{symbols_of, choice_of}
+use Rattle.av_derive.specs.Derivation.{WithinBrackets}
 use Rattle.av_derive.proofs.Steps.{stack-row, counted-row, counted-bound, next_off}
 use Rattle.av_derive.proofs.Refusals.{row-step, row-doomed}
-use Rattle.av_derive.proofs.Deep.{stack-room, earlier-row, flag-row, fresh-flag, earlier-more}
+use Rattle.av_derive.proofs.Deep.{stack-room, earlier-row, flag-row, fresh-flag, earlier-more, row-barren, low}
 use Rattle.av_derive.proofs.machine.Machine.expand.Goals as goal
 
 not-both : (b : Bool) → b ≡ true → b ≡ false → ⊥
@@ -25,6 +26,7 @@ loop-symbol-init c =
       room = λ under. stands.room;
       earlier = earlier-more c.args.at c.args.self.now.events.items stands.earlier;
       flag = fresh-flag c.args.at c.args.self.now.events.items stands.earlier;
+      barren = λ over. absurd (cc);
       depth = refl;
     }
 
@@ -34,6 +36,7 @@ loop-symbol-preserved c =
     let new = c.enter.new.self in
     let kept = c.loop-symbol.invariant in
     let e = c.in_ok-enter-in-Rows.ensures in
+    let within : WithinBrackets old.limits.brackets 0 (take c.args.at c.args.classes.now) = rw kept.limits c.requires.brackets in
     let popped : old.stack.items ≡ c.pop.new.self.items ++ symbol.Rows c.in-Rows.name ∷ [] = rw c.in-Rows.is at c.in-Some.ensures.items in
     let pushed : new.stack.items ≡ c.pop.new.self.items ++ reverse (symbols_of c.choose-rule.result) = cc (e.stack, c.in_ok-push_row-in-Rows.ensures, ap reverse c.symbols.ensures.value) in
     let chose : choice_of c.in-Rows.name c.ahead-class.result ≡ c.choose-rule.result = sym c.choose-rule.ensures.choice in
@@ -52,6 +55,12 @@ loop-symbol-preserved c =
       limits = e.limits ∙ kept.limits;
       room = λ under. rw (e.limits, e.brackets) (stack-room old.limits.brackets old.depth _ _ _ _ _ popped c.choose-rule.ensures.name pushed (e.room under) (kept.room (e.under under)));
       earlier = rw e.events (earlier-row c.args.at c.choose-rule.result old.events.items kept.earlier);
+      barren = λ over closes. elim (cases_Bool old.over) [
+        | inl before ↦ kept.barren before closes
+        | inr under ↦ row-barren old.limits _ _ _ _ _ _ _ _ old.depth old.signs popped chose kept.only kept.told
+            (low old.limits.brackets _ _ (kept.depth ∙ c.requires.depth) within) (counted-bound (kept.signs under))
+            (λ a b. not-both new.over over (e.within under a b)) closes
+      ];
       flag = rw e.events (flag-row old.counted new.counted c.args.at c.choose-rule.result old.events.items e.flag kept.flag);
       depth = e.brackets ∙ kept.depth;
     }
@@ -71,6 +80,7 @@ returns-in-Sign c =
         room = λ under. rw off at (kept.room under);
         earlier = kept.earlier;
         flag = kept.flag;
+        barren = rw (c.ahead-class.ensures) at kept.barren;
       };
       empty = λ e. absurd (cc);
       limits = kept.limits;
@@ -91,4 +101,5 @@ returns-clause-expanded c =
       room = λ under. rw same at (kept.room under);
       earlier = kept.earlier;
       flag = kept.flag;
+      barren = rw (c.ahead-class.ensures) at kept.barren;
     }

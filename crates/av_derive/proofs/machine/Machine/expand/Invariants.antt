@@ -1,7 +1,9 @@
 -- What weighs on the stack before the next token falls with each row.
 use Rattle.std.proofs.Common.{◌≡◌, ◌+◌, true, false, reverse, take}
+use Rattle.av_tree.specs.declared.class.Bracket.TheVariants as bracket
+use Rattle.av_tree.specs.Classes.{bracket_of}
 use Rattle.av_tree.specs.Table.{lead}
-use Rattle.av_derive.specs.State.{Leads, Only, Told, Doomed, Counted, Room, Earlier, Flagged}
+use Rattle.av_derive.specs.State.{Leads, Only, Told, Doomed, Barren, Counted, Room, Earlier, Flagged}
 use Rattle.av_derive.proofs.machine.Machine.expand.Given as goal
 
 abbrev pub decreases-loop-symbol : goal.decreases-loop-symbol
@@ -18,5 +20,6 @@ invariant-loop-symbol l = record {
   room : l.self.over ≡ false → Room l.self.limits.brackets l.self.depth (reverse l.self.stack.items);
   earlier : Earlier (l.at + 1) l.self.events.items;
   flag : Flagged l.self.counted l.at l.self.events.items;
+  barren : l.self.over ≡ true → bracket_of l.class ≡ bracket.Closes → Barren (take l.at l.classes) l.class;
   depth : l.self.depth ≡ l.fn.self.depth;
 }
