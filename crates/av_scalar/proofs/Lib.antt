@@ -1,1 +1,4 @@
 pub mod Bindings
+pub mod Meetings
+pub mod Parts
+pub mod Evaluations

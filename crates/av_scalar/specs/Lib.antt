@@ -1,2 +1,4 @@
 pub mod Meeting
 pub mod Names
+pub mod Stores
+pub mod Maps

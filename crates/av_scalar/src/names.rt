@@ -5,6 +5,7 @@ ghost use Rattle.std.specs.List.{All};
 ghost use Rattle.av_ir.specs.Run.{bind_values, values_at, word};
 ghost use Rattle.av_scalar.specs.Names.{Since, env_of, unwound, values};
 
+use super::words::{put, word_at};
 use av_affine::{No, Seq};
 use av_ir::ValueId;
 use std::alloc::{AllocError, Global};
@@ -21,24 +22,6 @@ pub struct Change {
 pub struct Names {
     pub words: Seq<u64>,
     pub changes: Seq<Change>,
-}
-
-/// The word of this place, and 0 where there is none.
-pub fn word_at(words: &[u64], place: u64) -> u64
-    ensures { result ≡ slice_index_or words.now place 0 }
-{
-    let place = place as usize;
-    if place < words.len() { words[place] } else { 0 }
-}
-
-// Puts a word in its place, if there is one.
-fn put(words: &mut Seq<u64>, place: u64, word: u64)
-    ensures { words.new ≡ slice_set words.old place word }
-{
-    let place = place as usize;
-    if place < words.len() {
-        words.set(place, word);
-    }
 }
 
 impl Names {

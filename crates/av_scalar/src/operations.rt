@@ -1,0 +1,77 @@
+//! The work of each kind of operation without regions, without its step.
+
+ghost use Rattle.std.specs.Prelude.{◌≡◌, ◌≤◌, ℕ, [], ◌∷◌, drop, length, IfErr, IfOk, MatchResult, Some, None};
+ghost use Rattle.std.specs.List.{All};
+ghost use Rattle.av_affine.specs.Limits.{Admissible};
+ghost use Rattle.av_ir.specs.Run.{Memory, types_at, word, word_at};
+ghost use Rattle.av_ir.specs.ScalarRun.{constant_of, element_width, evaluated, gives, index_of, load_at, low, perform_binary, result_width, store_at};
+ghost use Rattle.av_scalar.specs.Meeting.{EndsAt, Stops};
+ghost use Rattle.av_scalar.specs.Names.{values};
+ghost use Rattle.av_scalar.specs.Maps.{IsUsable};
+ghost use Rattle.av_scalar.specs.Stores.{AreSmall, memory_of, sizes_of};
+
+use super::memory::Standing;
+use super::words::word_at;
+use av_affine::{AffMap, No, Seq, eval};
+use av_bits::{BinOp, Width, binary, signed, wrap};
+use av_ir::{Buffer, Const, RunStop, TrapKind, Ty, ValueId, width};
+use smallvec::SmallVec;
+use std::alloc::{AllocError, Global};
+
+fn element_width(ty: &Ty) -> Width
+    ensures { result ≡ element_width ty.now }
+{
+    match ty {
+        Ty::Scalar(elem) | Ty::MemRef { elem, .. } | Ty::Vector { elem, .. } => width(*elem),
+    }
+}
+
+/// The width of an operation with these results.
+pub fn result_width(types: &[Ty], results: &[ValueId]) -> Width
+    ensures { result ≡ result_width (types_at types.now results.now) }
+{
+    if results.is_empty() {
+        return Width::W64;
+    }
+    let place = results[0].0 as usize;
+    if place < types.len() {
+        element_width(&types[place])
+    } else {
+        Width::W64
+    }
+}
+
+/// The pattern of a constant of a scalar type.
+pub fn constant(value: &Const) -> u64
+    ensures { result ≡ constant_of value.now }
+{
+    match value {
+        Const::Splat(pattern) => *pattern,
+        Const::Each(patterns) => word_at(patterns.as_slice(), 0),
+    }
+}
+
+// The low bits of a pattern, as many as the width has.
+fn low_bits(width: Width, pattern: u64) -> u64
+    ensures { result ≡ low width pattern }
+{
+    wrap(width, i128::from(pattern))
+}
+
+/// The pattern that a binary operation gives.
+///
+/// # Errors
+///
+/// The trap of a division, at the operation of this number.
+pub fn combine(number: No, op: BinOp, width: Width, operands: &[u64]) -> Result<u64, RunStop>
+    ensures { (memory : Memory) (budget : ℕ) → MatchResult result
+        (λ p. EndsAt (perform_binary width op number (values operands.now) memory) budget (record { outcome = word p ∷ []; memory = memory; handed = None }) budget)
+        (Stops (perform_binary width op number (values operands.now) memory) budget) }
+{
+    let first = low_bits(width, word_at(operands, 0));
+    let second = low_bits(width, word_at(operands, 1));
+    match binary(op, width, first, second) {
+        Ok(pattern) => Ok(pattern),
+        Err(_) => Err(RunStop::Trap(TrapKind::Divide, number)),
+    }
+}
