@@ -8,11 +8,11 @@ use Rattle.av_bits.specs.declared.types.BinOp.{BinOp}
 use Rattle.av_bits.specs.declared.types.DivideTrap.{DivideTrap}
 use Rattle.av_bits.specs.Scalar.{binary_of}
 use Rattle.av_ir.specs.declared.run.TrapKind.{TrapKind}
-use Rattle.av_ir.specs.declared.run.TrapKind.TheVariants.{Divide, IndexRange}
+use Rattle.av_ir.specs.declared.run.TrapKind.TheVariants.{Divide, IndexRange, OutOfBounds}
 use Rattle.av_ir.specs.declared.run.RunStop.{RunStop}
 use Rattle.av_ir.specs.declared.run.RunStop.TheVariants.{Trap, OutOfSteps, NoMemory}
 use Rattle.av_ir.specs.Run.{Run, Body, Value, Memory, ends, traps, word, word_of, word_at}
-use Rattle.av_ir.specs.ScalarRun.{gives, low, operands_of, perform_binary, perform_loop, quotient_given}
+use Rattle.av_ir.specs.ScalarRun.{gives, low, buffer_of, element_at, evaluated, load_at, loaded, operands_of, perform_binary, perform_loop, quotient_given, store_at, stored, with_element}
 use Rattle.av_scalar.specs.Meeting.{EndsAt, Stops}
 use Rattle.av_scalar.specs.Maps.{StopsAtMap}
 use Rattle.av_scalar.specs.Names.{values}
@@ -78,3 +78,57 @@ module _ (step : ℕ) (body : Body) (number : ℕ) (lower upper : Option (List �
   upper_stops low e stop h budget =
       subst (λ l. Stops (perform_loop step body number l upper carried memory) budget stop) (sym e)
       (map_stops (λ u. perform_loop step body number (Some low) u carried memory) number refl upper stop h budget)
+
+-- ---- loads and stores
+module _ (number : ℕ) (map : AffMap) (ws rest : List ℕ) (memory : Memory) (at : List ℤ) where
+  module _ (behind : rest ≡ drop 1 ws) (results : evaluated map (values rest) ≡ Some at) (k : ℕ) (memref : k ≡ get_or ws 0 0) where
+    load_is : load_at number memory (word_at (values ws) 0) (evaluated map (drop 1 (values ws))) ≡ loaded number memory k (element_at memory k at)
+    load_is =
+        ap (λ j. load_at number memory j (evaluated map (drop 1 (values ws)))) (word_at-values ws 0 ∙ sym memref)
+        ∙ ap (λ l. load_at number memory k (evaluated map l)) (sym (ap values behind ∙ values-drop 1 ws))
+        ∙ ap (load_at number memory k) results
+
+    pub load_gives : (place p : ℕ) → Some place ≡ element_at memory k at → p ≡ get_or (buffer_of memory k).cells place 0 → (budget : ℕ)
+        → EndsAt (load_at number memory (word_at (values ws) 0) (evaluated map (drop 1 (values ws)))) budget (record { outcome = word p ∷ []; memory = memory; handed = None }) budget
+    load_gives place p is read budget =
+        ends_now (load_at number memory (word_at (values ws) 0) (evaluated map (drop 1 (values ws)))) _
+        (load_is ∙ ap (loaded number memory k) (sym is) ∙ ap (λ q. gives (word q ∷ []) memory) (sym read)) budget
+
+    pub load_traps : None ≡ element_at memory k at → (budget : ℕ)
+        → Stops (load_at number memory (word_at (values ws) 0) (evaluated map (drop 1 (values ws)))) budget (Trap OutOfBounds number)
+    load_traps is budget =
+        traps_now (load_at number memory (word_at (values ws) 0) (evaluated map (drop 1 (values ws)))) OutOfBounds number (load_is ∙ ap (loaded number memory k) (sym is)) budget
+
+  module _ (behind : rest ≡ drop 2 ws) (results : evaluated map (values rest) ≡ Some at) (k : ℕ) (memref : k ≡ get_or ws 1 0) where
+    store_is : (p : ℕ) → p ≡ get_or ws 0 0
+        → store_at number memory (word_at (values ws) 1) (word_at (values ws) 0) (evaluated map (drop 2 (values ws))) ≡ stored number memory k p (element_at memory k at)
+    store_is p first =
+        ap (λ j. store_at number memory j (word_at (values ws) 0) (evaluated map (drop 2 (values ws)))) (word_at-values ws 1 ∙ sym memref)
+        ∙ ap (λ q. store_at number memory k q (evaluated map (drop 2 (values ws)))) (word_at-values ws 0 ∙ sym first)
+        ∙ ap (λ l. store_at number memory k p (evaluated map l)) (sym (ap values behind ∙ values-drop 2 ws))
+        ∙ ap (store_at number memory k p) results
+
+    pub store_gives : (place p : ℕ) → Some place ≡ element_at memory k at → p ≡ get_or ws 0 0 → (after : Memory) → after ≡ with_element memory k place p → (budget : ℕ)
+        → EndsAt (store_at number memory (word_at (values ws) 1) (word_at (values ws) 0) (evaluated map (drop 2 (values ws)))) budget (record { outcome = []; memory = after; handed = None }) budget
+    store_gives place p is first after put budget =
+        ends_now (store_at number memory (word_at (values ws) 1) (word_at (values ws) 0) (evaluated map (drop 2 (values ws)))) _
+        (store_is p first ∙ ap (stored number memory k p) (sym is) ∙ ap (gives []) (sym put)) budget
+
+    pub store_traps : None ≡ element_at memory k at → (budget : ℕ)
+        → Stops (store_at number memory (word_at (values ws) 1) (word_at (values ws) 0) (evaluated map (drop 2 (values ws)))) budget (Trap OutOfBounds number)
+    store_traps is budget =
+        traps_now (store_at number memory (word_at (values ws) 1) (word_at (values ws) 0) (evaluated map (drop 2 (values ws)))) OutOfBounds number
+        (store_is (get_or ws 0 0) refl ∙ ap (stored number memory k (get_or ws 0 0)) (sym is)) budget
+
+-- where a map at operands behind the first ones stops
+pub load_stops : (number : ℕ) (map : AffMap) (ws rest : List ℕ) (memory : Memory) (k : ℕ) (stop : RunStop) → rest ≡ drop 1 ws
+    → StopsAtMap number (evaluated map (values rest)) stop → (budget : ℕ) → Stops (load_at number memory k (evaluated map (drop 1 (values ws)))) budget stop
+load_stops number map ws rest memory k stop behind h budget =
+    subst (λ l. Stops (load_at number memory k (evaluated map l)) budget stop) (ap values behind ∙ values-drop 1 ws)
+    (map_stops (load_at number memory k) number refl (evaluated map (values rest)) stop h budget)
+
+pub store_stops : (number : ℕ) (map : AffMap) (ws rest : List ℕ) (memory : Memory) (k p : ℕ) (stop : RunStop) → rest ≡ drop 2 ws
+    → StopsAtMap number (evaluated map (values rest)) stop → (budget : ℕ) → Stops (store_at number memory k p (evaluated map (drop 2 (values ws)))) budget stop
+store_stops number map ws rest memory k p stop behind h budget =
+    subst (λ l. Stops (store_at number memory k p (evaluated map l)) budget stop) (ap values behind ∙ values-drop 2 ws)
+    (map_stops (store_at number memory k p) number refl (evaluated map (values rest)) stop h budget)

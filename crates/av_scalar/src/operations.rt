@@ -10,13 +10,13 @@ ghost use Rattle.av_scalar.specs.Names.{values};
 ghost use Rattle.av_scalar.specs.Maps.{IsUsable};
 ghost use Rattle.av_scalar.specs.Stores.{AreSmall, memory_of, sizes_of};
 
+use super::maps::{behind, evaluate};
 use super::memory::Standing;
 use super::words::word_at;
-use av_affine::{AffMap, No, Seq, eval};
-use av_bits::{BinOp, Width, binary, signed, wrap};
+use av_affine::{AffMap, No};
+use av_bits::{BinOp, Width, binary, wrap};
 use av_ir::{Buffer, Const, RunStop, TrapKind, Ty, ValueId, width};
-use smallvec::SmallVec;
-use std::alloc::{AllocError, Global};
+use std::alloc::Global;
 
 fn element_width(ty: &Ty) -> Width
     ensures { result ≡ element_width ty.now }
@@ -73,5 +73,64 @@ pub fn combine(number: No, op: BinOp, width: Width, operands: &[u64]) -> Result<
     match binary(op, width, first, second) {
         Ok(pattern) => Ok(pattern),
         Err(_) => Err(RunStop::Trap(TrapKind::Divide, number)),
+    }
+}
+
+/// The pattern that a load reads.
+///
+/// # Errors
+///
+/// A subscript is outside, or a result of the map out of range, which traps at the operation of this
+/// number, or memory lacks.
+pub fn load(
+    alloc: Global,
+    number: No,
+    map: &AffMap,
+    operands: &[u64],
+    standing: &Standing,
+    memory: &Vec<Buffer>,
+) -> Result<u64, RunStop>
+    requires map { IsUsable map.now }
+    requires small { AreSmall memory.now.items }
+    ensures { (budget : ℕ) → MatchResult result
+        (λ p. EndsAt (load_at number (memory_of standing.now memory.now.items) (word_at (values operands.now) 0) (evaluated map.now (drop 1 (values operands.now)))) budget (record { outcome = word p ∷ []; memory = memory_of standing.now memory.now.items; handed = None }) budget)
+        (Stops (load_at number (memory_of standing.now memory.now.items) (word_at (values operands.now) 0) (evaluated map.now (drop 1 (values operands.now)))) budget) }
+{
+    let at = evaluate(alloc, number, map, behind(operands, 1))?;
+    let memref = word_at(operands, 0);
+    match standing.place(memory, memref, at.as_slice()) {
+        Some(place) => Ok(standing.load(memory, memref, place)),
+        None => Err(RunStop::Trap(TrapKind::OutOfBounds, number)),
+    }
+}
+
+/// Stores a pattern.
+///
+/// # Errors
+///
+/// As for a load; then memory stays.
+pub fn store(
+    alloc: Global,
+    number: No,
+    map: &AffMap,
+    operands: &[u64],
+    standing: &Standing,
+    memory: &mut Vec<Buffer>,
+) -> Result<(), RunStop>
+    requires map { IsUsable map.now }
+    requires small { AreSmall memory.old.items }
+    ensures stored { (budget : ℕ) → MatchResult result
+        (λ _. EndsAt (store_at number (memory_of standing.now memory.old.items) (word_at (values operands.now) 1) (word_at (values operands.now) 0) (evaluated map.now (drop 2 (values operands.now)))) budget (record { outcome = []; memory = memory_of standing.now memory.new.items; handed = None }) budget)
+        (Stops (store_at number (memory_of standing.now memory.old.items) (word_at (values operands.now) 1) (word_at (values operands.now) 0) (evaluated map.now (drop 2 (values operands.now)))) budget) }
+    ensures sizes { sizes_of memory.new.items ≡ sizes_of memory.old.items }
+{
+    let at = evaluate(alloc, number, map, behind(operands, 2))?;
+    let memref = word_at(operands, 1);
+    match standing.place(memory, memref, at.as_slice()) {
+        Some(place) => {
+            standing.store(memory, memref, place, word_at(operands, 0));
+            Ok(())
+        }
+        None => Err(RunStop::Trap(TrapKind::OutOfBounds, number)),
     }
 }
