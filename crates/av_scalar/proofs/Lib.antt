@@ -2,3 +2,4 @@ pub mod Bindings
 pub mod Meetings
 pub mod Parts
 pub mod Evaluations
+pub mod Opened

@@ -2,3 +2,4 @@ pub mod Meeting
 pub mod Names
 pub mod Stores
 pub mod Maps
+pub mod Runnable
