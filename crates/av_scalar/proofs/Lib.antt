@@ -3,3 +3,4 @@ pub mod Meetings
 pub mod Parts
 pub mod Evaluations
 pub mod Opened
+pub mod OneStep

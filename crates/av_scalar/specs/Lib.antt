@@ -3,3 +3,4 @@ pub mod Names
 pub mod Stores
 pub mod Maps
 pub mod Runnable
+pub mod Machines

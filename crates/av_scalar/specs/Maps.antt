@@ -21,10 +21,11 @@ StopsAtMap number results OutOfSteps = ⊥
 StopsAtMap number results NoMemory = Unit {0}
 
 -- the first pattern and the number of turns of a loop with these bounds
-pub record IsTurns (lower upper : Option (List ℤ)) (step : ℕ) (t : Turns) : Type 0 where
+pub record IsTurns (lower upper : Option (List ℤ)) (its_step : ℕ) (t : Turns) : Type 0 where
   pub low : List ℤ
   pub high : List ℤ
   pub is_low : lower ≡ Some low
   pub is_high : upper ≡ Some high
+  pub step : t.step ≡ its_step
   pub first : t.first ≡ pattern_of 64 (greatest low)
-  pub count : t.count ≡ turns (greatest low) (least high) step
+  pub count : t.count ≡ turns (greatest low) (least high) its_step

@@ -9,14 +9,16 @@ ghost use Rattle.av_scalar.specs.Meeting.{Stops};
 ghost use Rattle.av_scalar.specs.Names.{values};
 
 use super::maps::{behind, evaluate};
-use av_affine::{AffMap, No};
+use av_affine::{AffMap, No, Seq};
 use av_bits::{Width, wrap};
 use av_ir::RunStop;
-use std::alloc::Global;
+use std::alloc::{AllocError, Global};
 
-/// The turns of a loop: the pattern of its variable in the first one, and how many there are.
+/// The turns of a loop: the pattern of its variable in the first one, by how much it grows with each,
+/// and how many there are.
 pub struct Turns {
     pub first: u64,
+    pub step: u64,
     pub count: u64,
 }
 
@@ -60,11 +62,13 @@ fn count(lower: i64, upper: i64, step: u64) -> u64
 // The turns from the greatest of the lower bounds to below the least of the upper ones.
 fn between(lower: &[i64], upper: &[i64], step: u64) -> Turns
     ensures first { result.first ≡ pattern_of 64 (greatest lower.now) }
+    ensures step { result.step ≡ step }
     ensures count { result.count ≡ turns (greatest lower.now) (least upper.now) step }
 {
     let first = greatest(lower);
     Turns {
         first: wrap(Width::W64, i128::from(first)),
+        step,
         count: count(first, least(upper), step),
     }
 }
@@ -91,4 +95,21 @@ pub fn turns_of(
     let rest = behind(behind(operands, lower.dims), lower.syms);
     let high = evaluate(alloc, number, upper, rest)?;
     Ok(between(low.as_slice(), high.as_slice(), step))
+}
+
+/// What a loop carries into its first turn: the operands behind those of its bounds.
+///
+/// # Errors
+///
+/// Want of memory.
+pub fn carried(
+    alloc: Global,
+    lower: &AffMap,
+    upper: &AffMap,
+    operands: &[u64],
+) -> Result<Seq<u64>, AllocError>
+    ensures { IfOk result (λ ws. values ws ≡ drop (operands_of upper.now) (drop (operands_of lower.now) (values operands.now))) }
+{
+    let rest = behind(behind(operands, lower.dims), lower.syms);
+    Seq::from_slice(alloc, behind(behind(rest, upper.dims), upper.syms))
 }

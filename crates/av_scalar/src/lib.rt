@@ -2,6 +2,7 @@
 #![tactic(auto)]
 
 mod bounds;
+mod machine;
 mod maps;
 mod memory;
 mod names;

@@ -5,15 +5,17 @@ ghost use Rattle.std.specs.List.{All};
 ghost use Rattle.av_affine.specs.Limits.{Admissible};
 ghost use Rattle.av_ir.specs.Run.{Memory, types_at, word, word_at};
 ghost use Rattle.av_ir.specs.ScalarRun.{constant_of, element_width, evaluated, gives, index_of, load_at, low, perform_binary, result_width, store_at};
+ghost use Rattle.av_scalar.specs.Machines.{given_with};
 ghost use Rattle.av_scalar.specs.Meeting.{EndsAt, Stops};
 ghost use Rattle.av_scalar.specs.Names.{values};
 ghost use Rattle.av_scalar.specs.Maps.{IsUsable};
 ghost use Rattle.av_scalar.specs.Stores.{AreSmall, memory_of, sizes_of};
 
+use super::machine::Outcome;
 use super::maps::{behind, evaluate};
 use super::memory::Standing;
 use super::words::word_at;
-use av_affine::{AffMap, No};
+use av_affine::{AffMap, No, Seq};
 use av_bits::{BinOp, Width, binary, wrap};
 use av_ir::{Buffer, Const, RunStop, TrapKind, Ty, ValueId, width};
 use std::alloc::Global;
@@ -41,14 +43,27 @@ pub fn result_width(types: &[Ty], results: &[ValueId]) -> Width
     }
 }
 
-/// The pattern of a constant of a scalar type.
-pub fn constant(value: &Const) -> u64
+// The pattern of a constant of a scalar type.
+fn pattern_of(value: &Const) -> u64
     ensures { result ≡ constant_of value.now }
 {
     match value {
         Const::Splat(pattern) => *pattern,
         Const::Each(patterns) => word_at(patterns.as_slice(), 0),
     }
+}
+
+/// The work of a constant.
+///
+/// # Errors
+///
+/// Want of memory.
+pub fn give_constant(alloc: Global, value: &Const) -> Result<Outcome, RunStop>
+    ensures { (memory : Memory) (budget : ℕ) → MatchResult result
+        (λ o. EndsAt (gives (word (constant_of value.now) ∷ []) memory) budget (given_with o memory) budget)
+        (Stops (gives (word (constant_of value.now) ∷ []) memory) budget) }
+{
+    Ok(Outcome::one(alloc, pattern_of(value))?)
 }
 
 // The low bits of a pattern, as many as the width has.
@@ -58,25 +73,31 @@ fn low_bits(width: Width, pattern: u64) -> u64
     wrap(width, i128::from(pattern))
 }
 
-/// The pattern that a binary operation gives.
+/// The work of a binary operation.
 ///
 /// # Errors
 ///
-/// The trap of a division, at the operation of this number.
-pub fn combine(number: No, op: BinOp, width: Width, operands: &[u64]) -> Result<u64, RunStop>
+/// A division traps, at the operation of this number, or memory lacks.
+pub fn combine(
+    alloc: Global,
+    number: No,
+    op: BinOp,
+    width: Width,
+    operands: &[u64],
+) -> Result<Outcome, RunStop>
     ensures { (memory : Memory) (budget : ℕ) → MatchResult result
-        (λ p. EndsAt (perform_binary width op number (values operands.now) memory) budget (record { outcome = word p ∷ []; memory = memory; handed = None }) budget)
+        (λ o. EndsAt (perform_binary width op number (values operands.now) memory) budget (given_with o memory) budget)
         (Stops (perform_binary width op number (values operands.now) memory) budget) }
 {
     let first = low_bits(width, word_at(operands, 0));
     let second = low_bits(width, word_at(operands, 1));
     match binary(op, width, first, second) {
-        Ok(pattern) => Ok(pattern),
+        Ok(pattern) => Ok(Outcome::one(alloc, pattern)?),
         Err(_) => Err(RunStop::Trap(TrapKind::Divide, number)),
     }
 }
 
-/// The pattern that a load reads.
+/// The work of a load.
 ///
 /// # Errors
 ///
@@ -89,22 +110,22 @@ pub fn load(
     operands: &[u64],
     standing: &Standing,
     memory: &Vec<Buffer>,
-) -> Result<u64, RunStop>
+) -> Result<Outcome, RunStop>
     requires map { IsUsable map.now }
     requires small { AreSmall memory.now.items }
     ensures { (budget : ℕ) → MatchResult result
-        (λ p. EndsAt (load_at number (memory_of standing.now memory.now.items) (word_at (values operands.now) 0) (evaluated map.now (drop 1 (values operands.now)))) budget (record { outcome = word p ∷ []; memory = memory_of standing.now memory.now.items; handed = None }) budget)
+        (λ o. EndsAt (load_at number (memory_of standing.now memory.now.items) (word_at (values operands.now) 0) (evaluated map.now (drop 1 (values operands.now)))) budget (given_with o (memory_of standing.now memory.now.items)) budget)
         (Stops (load_at number (memory_of standing.now memory.now.items) (word_at (values operands.now) 0) (evaluated map.now (drop 1 (values operands.now)))) budget) }
 {
     let at = evaluate(alloc, number, map, behind(operands, 1))?;
     let memref = word_at(operands, 0);
     match standing.place(memory, memref, at.as_slice()) {
-        Some(place) => Ok(standing.load(memory, memref, place)),
+        Some(place) => Ok(Outcome::one(alloc, standing.load(memory, memref, place))?),
         None => Err(RunStop::Trap(TrapKind::OutOfBounds, number)),
     }
 }
 
-/// Stores a pattern.
+/// The work of a store.
 ///
 /// # Errors
 ///
@@ -116,11 +137,11 @@ pub fn store(
     operands: &[u64],
     standing: &Standing,
     memory: &mut Vec<Buffer>,
-) -> Result<(), RunStop>
+) -> Result<Outcome, RunStop>
     requires map { IsUsable map.now }
     requires small { AreSmall memory.old.items }
     ensures stored { (budget : ℕ) → MatchResult result
-        (λ _. EndsAt (store_at number (memory_of standing.now memory.old.items) (word_at (values operands.now) 1) (word_at (values operands.now) 0) (evaluated map.now (drop 2 (values operands.now)))) budget (record { outcome = []; memory = memory_of standing.now memory.new.items; handed = None }) budget)
+        (λ o. EndsAt (store_at number (memory_of standing.now memory.old.items) (word_at (values operands.now) 1) (word_at (values operands.now) 0) (evaluated map.now (drop 2 (values operands.now)))) budget (given_with o (memory_of standing.now memory.new.items)) budget)
         (Stops (store_at number (memory_of standing.now memory.old.items) (word_at (values operands.now) 1) (word_at (values operands.now) 0) (evaluated map.now (drop 2 (values operands.now)))) budget) }
     ensures sizes { sizes_of memory.new.items ≡ sizes_of memory.old.items }
 {
@@ -129,7 +150,10 @@ pub fn store(
     match standing.place(memory, memref, at.as_slice()) {
         Some(place) => {
             standing.store(memory, memref, place, word_at(operands, 0));
-            Ok(())
+            Ok(Outcome {
+                words: Seq::new(alloc),
+                handed: None,
+            })
         }
         None => Err(RunStop::Trap(TrapKind::OutOfBounds, number)),
     }

@@ -20,6 +20,7 @@ returns-clause-turns c = record {
   high = c.in_ok-high.high.items;
   is_low = c.in_ok-low.ensures.value;
   is_high = ap (evaluated c.args.upper.now) (sym (behind_map c.args.lower.now c.args.operands.now c.behind.result.now c.behind-rest.result.now c.behind.ensures c.behind-rest.ensures)) ∙ c.in_ok-high.ensures.value;
+  step = c.between.ensures.step;
   first = c.between.ensures.first ∙ ap (λ l. pattern_of 64 (greatest l)) c.as_slice.ensures;
   count = c.between.ensures.count ∙ ap (λ l. turns (greatest l) (least c.as_slice-2.result.now) c.args.step) c.as_slice.ensures ∙ ap (λ l. turns (greatest c.in_ok-low.low.items) (least l) c.args.step) c.as_slice-2.ensures;
 }

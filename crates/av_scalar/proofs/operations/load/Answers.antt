@@ -15,9 +15,10 @@ returns-in_err-at c = λ budget.
     (word_at (values c.args.operands.now) 0) c.in_err-at.field-0.0 c.behind.ensures c.in_err-at.ensures.stop budget)
 
 pub returns-in-Some : goal.returns-in-Some
-returns-in-Some c =
-    load_gives c.args.number c.args.map.now c.args.operands.now c.behind.result.now (memory_of c.args.standing.now c.args.memory.now.items) c.as_slice.result.now c.behind.ensures (c.in_ok-at.ensures.value ∙ ap Some (sym c.as_slice.ensures)) c.word_at-memref.result c.word_at-memref.ensures
-    c.in-Some.place c.load.result (sym c.in-Some.is ∙ c.place.ensures) c.load.ensures
+returns-in-Some c = λ budget.
+    rw c.in_ok-one-in-Some.ensures
+    (load_gives c.args.number c.args.map.now c.args.operands.now c.behind.result.now (memory_of c.args.standing.now c.args.memory.now.items) c.as_slice.result.now c.behind.ensures (c.in_ok-at.ensures.value ∙ ap Some (sym c.as_slice.ensures)) c.word_at-memref.result c.word_at-memref.ensures
+    c.in-Some.place c.load.result (sym c.in-Some.is ∙ c.place.ensures) c.load.ensures budget)
 
 pub returns : goal.returns
 returns c =

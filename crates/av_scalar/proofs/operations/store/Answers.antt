@@ -15,9 +15,10 @@ returns-in_err-at-clause-stored c = λ budget.
     (word_at (values c.args.operands.now) 1) (word_at (values c.args.operands.now) 0) c.in_err-at.field-0.0 c.behind.ensures c.in_err-at.ensures.stop budget)
 
 pub returns-in-Some-clause-stored : goal.returns-in-Some-clause-stored
-returns-in-Some-clause-stored c =
-    store_gives c.args.number c.args.map.now c.args.operands.now c.behind.result.now (memory_of c.args.standing.now c.args.memory.now.items) c.as_slice.result.now c.behind.ensures (c.in_ok-at.ensures.value ∙ ap Some (sym c.as_slice.ensures)) c.word_at-memref.result c.word_at-memref.ensures
-    c.in-Some.place c.word_at.result (sym c.in-Some.is ∙ c.place.ensures) c.word_at.ensures (memory_of c.args.standing.now c.store.new.memory.items) c.store.ensures.stored
+returns-in-Some-clause-stored c = λ budget.
+    rw c.new.ensures
+    (store_gives c.args.number c.args.map.now c.args.operands.now c.behind.result.now (memory_of c.args.standing.now c.args.memory.now.items) c.as_slice.result.now c.behind.ensures (c.in_ok-at.ensures.value ∙ ap Some (sym c.as_slice.ensures)) c.word_at-memref.result c.word_at-memref.ensures
+    c.in-Some.place c.word_at.result (sym c.in-Some.is ∙ c.place.ensures) c.word_at.ensures (memory_of c.args.standing.now c.store.new.memory.items) c.store.ensures.stored budget)
 
 pub returns-clause-stored : goal.returns-clause-stored
 returns-clause-stored c =
