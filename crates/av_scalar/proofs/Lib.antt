@@ -4,3 +4,5 @@ pub mod Parts
 pub mod Evaluations
 pub mod Opened
 pub mod OneStep
+pub mod Walks
+pub mod Works

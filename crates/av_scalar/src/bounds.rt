@@ -16,6 +16,7 @@ use std::alloc::{AllocError, Global};
 
 /// The turns of a loop: the pattern of its variable in the first one, by how much it grows with each,
 /// and how many there are.
+#[derive(Drop)]
 pub struct Turns {
     pub first: u64,
     pub step: u64,

@@ -7,4 +7,5 @@ mod maps;
 mod memory;
 mod names;
 mod operations;
+mod running;
 mod words;
