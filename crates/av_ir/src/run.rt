@@ -41,6 +41,17 @@ pub enum RunStop {
     NoMemory,
 }
 
+impl From<AllocError> for RunStop {
+    ghost use Rattle.std.specs.Prelude.{◌≡◌};
+    ghost use Rattle.av_ir.specs.declared.run.RunStop.TheVariants.{NoMemory};
+
+    ghost from_gives = { λ _ stop. stop ≡ NoMemory };
+
+    fn from(_fault: AllocError) -> RunStop {
+        RunStop::NoMemory
+    }
+}
+
 impl Duplicate for Buffer {
     fn duplicate(&self, alloc: Global) -> Result<Buffer, AllocError> {
         Ok(Buffer {

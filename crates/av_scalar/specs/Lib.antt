@@ -1,0 +1,6 @@
+pub mod Meeting
+pub mod Names
+pub mod Stores
+pub mod Maps
+pub mod Runnable
+pub mod Machines
