@@ -3,3 +3,4 @@ pub mod Lexing
 pub mod Parts
 pub mod Words
 pub mod TypeParts
+pub mod TextsOf

@@ -1,15 +1,31 @@
 -- What holds of pieces that are written and read again.
-use Rattle.std.specs.Prelude.{ℕ, ◌≡◌, true, List, ◌++◌}
+use Rattle.std.specs.Prelude.{ℕ, ◌≡◌, true, List, ◌++◌, map}
+use Rattle.av_lex.specs.declared.token.Token.{Token}
 use Rattle.av_lex.specs.Tokens.{Tokens}
+use Rattle.av_derive.specs.ClassOf.{class_of, classes_of, spelling_of}
 use Rattle.av_tree.specs.declared.written.TypeText.{TypeText}
 use Rattle.av_printer.specs.Pieces.{Piece, spelt}
 use Rattle.av_printer.specs.Types.{type_pieces}
-use Rattle.av_written.specs.Spacing.{begins_apart, SpacedBefore, Spaced, tokens_of}
+use Rattle.av_written.specs.Spacing.{begins_apart, SpacedBefore, Spaced, tokens_of, words_of}
 use Rattle.av_written.specs.ReadTypes.{IsReadType}
 
 -- the tokens of what spaced pieces spell are their words
 abbrev pub TokensLaw : Type 0
 TokensLaw = (pieces : List Piece) → Spaced pieces → Tokens (spelt pieces) (tokens_of pieces 0)
+
+-- and it has no other tokens
+abbrev pub NoOtherTokensLaw : Type 0
+NoOtherTokensLaw = (pieces : List Piece) → Spaced pieces → (tokens : List Token) → Tokens (spelt pieces) tokens → tokens ≡ tokens_of pieces 0
+
+-- each token is spelled with the text of its word
+abbrev pub SpellingsLaw : Type 0
+SpellingsLaw = (pieces : List Piece)
+    → map (λ token. (token.kind, spelling_of (spelt pieces) token)) (tokens_of pieces 0) ≡ words_of pieces
+
+-- each token has the class of its word
+abbrev pub ClassesLaw : Type 0
+ClassesLaw = (pieces : List Piece)
+    → classes_of (spelt pieces) (tokens_of pieces 0) ≡ map (λ word. class_of word.0 word.1) (words_of pieces)
 
 -- pieces are spaced if their first part is before the second, and the second is
 abbrev pub PartsLaw : Type 0
