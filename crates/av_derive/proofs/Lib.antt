@@ -2,4 +2,8 @@ pub mod Weights
 pub mod Steps
 pub mod OneDerivation
 pub mod Refusals
+pub mod Shortest
+pub mod Balance
+pub mod Completion
+pub mod Deep
 pub mod Keywords

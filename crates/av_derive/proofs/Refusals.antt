@@ -24,8 +24,9 @@ use Rattle.av_derive.specs.declared.machine.Machine.{Machine}
 use Rattle.av_derive.specs.declared.machine.Stop.{Stop}
 use Rattle.av_derive.specs.declared.machine.Stop.TheVariants as stop
 use Rattle.av_derive.specs.Derivation.{Derives, DerivesFile, Derived, NoneBegins, NoneDerives, nothing_left, by_sign, by_word, by_token, by_row, opened, WithinBrackets, signs_with, WithinSigns}
-use Rattle.av_derive.specs.State.{Continues, Only, Doomed, Told, is_name, Stands, StandsFresh, Expanded, Shifted, ahead, open_after, signs_after, Fits, spelled}
+use Rattle.av_derive.specs.State.{Continues, Only, Doomed, Told, is_name, Stands, StandsFresh, Expanded, Shifted, ahead, open_after, signs_after, Fits, spelled, Earlier}
 use Rattle.av_derive.proofs.Steps.{signs-append, signs-bound, leads-token, counted-token, open-append, open-bound, brackets-append, next_off, row_on}
+use Rattle.av_derive.proofs.Balance.{room-token}
 use Rattle.av_derive.proofs.OneDerivation.{chosen, next-comes, told-row, told-tail, told-file}
 
 row-goes-on : {n : ℕ} {x : Name} {ss : List Symbol} {cs : List Class} {rest : List Event} (r : Rule) → Told (symbol.Rows x ∷ ss)
@@ -38,14 +39,14 @@ row-goes-on {n} {x} {ss} {cs} r told e (by_row {es = es} r' e' d) =
       derives = subst (λ (q : Rule). Derives n (symbols_of q ++ ss) cs es) same d;
     }
 
-token-goes-on : {n : ℕ} {s : Symbol} {ss : List Symbol} {c : Class} {cs : List Class} {rest : List Event} → is_name (Some s) ≡ false
+pub token-goes-on : {n : ℕ} {s : Symbol} {ss : List Symbol} {c : Class} {cs : List Class} {rest : List Event} → is_name (Some s) ≡ false
     → Derives n (s ∷ ss) (c ∷ cs) rest → Fits s c × Continues (suc n) ss cs (spelled s n) rest
 token-goes-on k (by_sign {es = es} e d) = (e, record { rest = es; splits = refl; derives = d })
 token-goes-on k (by_word {es = es} e d) = (e, record { rest = es; splits = refl; derives = d })
 token-goes-on k (by_token {es = es} e d) = (e, record { rest = es; splits = refl; derives = d })
 token-goes-on k (by_row r e d) = absurd (cc)
 
-nothing-more : {n : ℕ} {c : Class} {cs : List Class} {rest : List Event} → Derives n [] (c ∷ cs) rest → ⊥
+pub nothing-more : {n : ℕ} {c : Class} {cs : List Class} {rest : List Event} → Derives n [] (c ∷ cs) rest → ⊥
 nothing-more d = elim d [ ]
 
 token-lacks : {n : ℕ} {s : Symbol} {ss : List Symbol} {rest : List Event} → is_name (Some s) ≡ false → Derives n (s ∷ ss) [] rest → ⊥
@@ -134,6 +135,8 @@ fresh-stands m e f deep many cs = record {
   signs = rw (many, f) (record { counted = refl; within = tt });
   only = λ next. rw (e, f) (record { only = λ cs es q d. record { rest = es; splits = refl; derives = d } });
   told = rw e told-file;
+  room = rw (e, deep) (omega arith, omega arith, tt);
+  earlier = rw f tt;
 }
 
 pub next-class : (cs : List Class) (n : ℕ) (d : Class) → n < length cs → get_or cs n d ≡ ahead (drop n cs)
@@ -197,6 +200,14 @@ row-doomed limits n taken events x items popped r c depth signs e chose o told d
     let told' : Told (symbol.Rows x ∷ reverse popped) = rw (e, next_off popped (symbol.Rows x)) at told in
     doomed-row limits n taken events x (reverse popped) r c depth signs told' chose o' deep many refused
 
+earlier-token : (most n : ℕ) (s : Symbol) (es : List Event) → Earlier most es → Earlier most (es ++ spelled s n)
+earlier-token most n (symbol.Sign s) es h = rw append-nil h
+earlier-token most n (symbol.Word s) es h = rw append-nil h
+earlier-token most n (symbol.Rows s) es h = rw append-nil h
+earlier-token most n (symbol.Token s) [] h = tt
+earlier-token most n (symbol.Token s) (event.Token k ∷ es) h = earlier-token most n (symbol.Token s) es h
+earlier-token most n (symbol.Token s) (event.Row r k ∷ es) h = (h.0, earlier-token most n (symbol.Token s) es h.1)
+
 pub taken-more : (m m' : Machine) (s : Symbol) (c : Class) (cs : List Class) (n : ℕ)
     → take (n + 1) cs ≡ take n cs ++ c ∷ [] → c ≡ ahead (drop n cs) → Expanded m (Some s) cs n
     → m.depth ≡ open_after 0 (take n cs) → WithinBrackets m.limits.brackets 0 (take n cs)
@@ -212,4 +223,6 @@ taken-more m m' s c cs n more q e deep within k =
       signs = rw (k.limits, k.signs, k.events) (counted-token s n (e.signs k.under));
       only = λ next. rw (more, k.events, k.stack) (only-token n (take n cs) m.events.items s (reverse m.stack.items) c next e.no_name o);
       told = rw k.stack (told-tail s (reverse m.stack.items) e.told);
+      room = rw (k.limits, k.depth, k.stack) (room-token s c (reverse m.stack.items) m.limits.brackets m.depth k.fits (e.room k.under));
+      earlier = rw k.events (earlier-token (n + 1) n s m.events.items e.earlier);
     }

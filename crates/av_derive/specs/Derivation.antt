@@ -1,5 +1,5 @@
 -- Which events derive which classes of tokens, and when they keep the limits.
-use Rattle.std.specs.Prelude.{◌≡◌, ℕ, suc, ◌+◌, ◌-◌, ◌<◌, ◌≤◌, ◌⊎◌, length, take, IsTrue, if◌then◌else◌, List, [], ◌∷◌, ◌++◌}
+use Rattle.std.specs.Prelude.{◌≡◌, ℕ, suc, ◌+◌, ◌-◌, ◌<◌, ◌≤◌, ◌⊎◌, length, take, slice_index_or, IsTrue, if◌then◌else◌, List, [], ◌∷◌, ◌++◌}
 use Rattle.av_tree.specs.declared.class.Class.{Class}
 use Rattle.av_tree.specs.declared.class.Class.TheVariants as class
 use Rattle.av_tree.specs.declared.class.Bracket.{Bracket}
@@ -76,6 +76,31 @@ NoneDerives limits cs = (es : List Event) → Derived limits cs es → ⊥
 -- No list that begins with the classes up to this one is derived, or nothing more stands and these aren't.
 abbrev pub IsWrongAt : Limits → List Class → ℕ → Type 0
 IsWrongAt limits cs at = ((at < length cs) × NoneBegins limits (take (at + 1) cs)) ⊎ ((at ≡ length cs) × NoneDerives limits cs)
+
+-- Some list that begins with these classes is derived within the limits.
+pub record Viable (limits : Limits) (cs : List Class) : Type 0 where
+  pub more : List Class
+  pub events : List Event
+  pub derived : Derived limits (cs ++ more) events
+
+-- a row that counts its first sign or word begins with the token of this number
+abbrev pub CountsAt : ℕ → List Event → Type 0
+CountsAt at [] = ⊥
+CountsAt at (event.Token n ∷ es) = CountsAt at es
+CountsAt at (event.Row r n ∷ es) = ((n ≡ at) × IsTrue (counts_sign r)) ⊎ CountsAt at es
+
+-- But for the limits some list is derived that begins with the classes up to this one, itself included, and
+-- the token opens a bracket, or is a sign or word of calculation there: so only a limit can make it wrong.
+pub record IsDeepAt (cs : List Class) (at : ℕ) : Type 0 where
+  pub within : at < length cs
+  pub more : List Class
+  pub events : List Event
+  pub derives : DerivesFile (take (at + 1) cs ++ more) events
+  pub deep : (bracket_of (slice_index_or cs at class.End) ≡ bracket.Opens) ⊎ CountsAt at events
+
+-- Even but for the limits the token goes on no derivation, or it opens no bracket and is no sign or word of calculation.
+abbrev pub IsPlainAt : List Class → ℕ → Type 0
+IsPlainAt cs at = IsDeepAt cs at → ⊥
 
 -- nothing else derives the classes
 abbrev pub IsOnly : List Class → List Event → Type 0

@@ -1,17 +1,23 @@
 -- What holds of a machine between two tokens, and of its steps.
-use Rattle.std.specs.Prelude.{◌≡◌, ℕ, ◌≤◌, Bool, true, false, ◌&&◌, ◌||◌, IsTrue, List, [], ◌∷◌, ◌++◌, reverse, take, drop, Option, Some, None}
+use Rattle.std.specs.Prelude.{◌≡◌, ℕ, ◌+◌, ◌<◌, ◌≤◌, Bool, true, false, ◌&&◌, ◌||◌, IsTrue, List, [], ◌∷◌, ◌++◌, reverse, take, drop, Option, Some, None}
 use Rattle.av_tree.specs.declared.class.Class.{Class}
 use Rattle.av_tree.specs.declared.class.Class.TheVariants as class
 use Rattle.av_tree.specs.declared.table.Symbol.{Symbol}
 use Rattle.av_tree.specs.declared.table.Symbol.TheVariants as symbol
+use Rattle.av_tree.specs.declared.class.Bracket.{Bracket}
+use Rattle.av_tree.specs.declared.class.Bracket.TheVariants as bracket
+use Rattle.av_tree.specs.declared.table.Name.{Name}
+use Rattle.av_tree.specs.declared.table.Name.TheVariants as name
+use Rattle.av_tree.specs.declared.table.affine.AffineName.TheVariants as affine_name
 use Rattle.av_tree.specs.Classes.{fits_of, bracket_of}
 use Rattle.av_tree.specs.Sets.{first_of, follow_of, has, is_same_class}
 use Rattle.av_tree.specs.Table.{is_nullable}
+use Rattle.av_tree.proofs.Depth.{need_of_name}
 use Rattle.av_derive.specs.declared.machine.Event.{Event}
 use Rattle.av_derive.specs.declared.machine.Event.TheVariants as event
 use Rattle.av_derive.specs.declared.machine.Limits.{Limits}
 use Rattle.av_derive.specs.declared.machine.Machine.{Machine}
-use Rattle.av_derive.specs.Derivation.{Derives, DerivesFile, Derived, opened, WithinBrackets, signs_with, WithinSigns}
+use Rattle.av_derive.specs.Derivation.{Derives, DerivesFile, Derived, opened, WithinBrackets, signs_with, WithinSigns, CountsAt}
 
 -- Whatever derives the rest from the symbols derives the whole with what was taken before.
 pub record Leads (n : ℕ) (taken : List Class) (events : List Event) (symbols : List Symbol) : Type 0 where
@@ -88,6 +94,36 @@ pub record Counted (most signs : ℕ) (events : List Event) : Type 0 where
   pub counted : signs ≡ signs_after 0 events
   pub within : WithinSigns most 0 events
 
+-- how many of the brackets that were open before are closed at once by whatever the name derives
+abbrev pub closed_by : Name → ℕ
+closed_by (name.Affine affine_name.Carried) = 1
+closed_by (name.Affine affine_name.MoreCarried) = 1
+closed_by _ = 0
+
+-- a token that does this to the brackets keeps their limit, and closes one that is open
+abbrev pub Fitting : ℕ → ℕ → Bracket → Type 0
+Fitting most before bracket.Opens = before + 1 ≤ most
+Fitting most before bracket.Closes = 1 ≤ before
+Fitting most before bracket.None = Unit {0}
+
+-- Where so many brackets are open, the symbols can be derived within their limit, and no bracket is closed that isn't open.
+abbrev pub Room : ℕ → ℕ → List Symbol → Type 0
+Room most before [] = Unit {0}
+Room most before (symbol.Sign s ∷ rest) = Fitting most before (bracket_of (class.Sign s)) × Room most (opened (bracket_of (class.Sign s)) before) rest
+Room most before (symbol.Rows x ∷ rest) = (before + need_of_name x ≤ most) × (closed_by x ≤ before) × Room most before rest
+Room most before (_ ∷ rest) = Room most before rest
+
+-- each row was chosen before the token of a number below this one
+abbrev pub Earlier : ℕ → List Event → Type 0
+Earlier n [] = Unit {0}
+Earlier n (event.Token k ∷ es) = Earlier n es
+Earlier n (event.Row r k ∷ es) = (k < n) × Earlier n es
+
+-- A flag tells whether a row that counts its first sign or word begins with the token of this number.
+pub record Flagged (flag : Bool) (n : ℕ) (events : List Event) : Type 0 where
+  pub counts : flag ≡ true → CountsAt n events
+  pub plain : flag ≡ false → CountsAt n events → ⊥
+
 -- A machine that took the first n of the tokens.
 pub record Stands (m : Machine) (cs : List Class) (n : ℕ) : Type 0 where
   pub leads : Leads n (take n cs) m.events.items (reverse m.stack.items)
@@ -96,6 +132,8 @@ pub record Stands (m : Machine) (cs : List Class) (n : ℕ) : Type 0 where
   pub signs : Counted m.limits.signs m.signs m.events.items
   pub only : (next : Class) → Only n (take n cs) m.events.items (reverse m.stack.items) next
   pub told : Told (reverse m.stack.items)
+  pub room : Room m.limits.brackets m.depth (reverse m.stack.items)
+  pub earlier : Earlier n m.events.items
 
 -- A machine that took none of the tokens, whichever they are.
 abbrev pub StandsFresh : Machine → Type 0
@@ -109,6 +147,9 @@ pub record Expanded (m : Machine) (next : Option Symbol) (cs : List Class) (n : 
   pub told : Told (with_next next (reverse m.stack.items))
   pub doomed : m.over ≡ true → Doomed m.limits (take n cs) (ahead (drop n cs))
   pub no_name : is_name next ≡ false
+  pub room : m.over ≡ false → Room m.limits.brackets m.depth (with_next next (reverse m.stack.items))
+  pub earlier : Earlier (n + 1) m.events.items
+  pub flag : Flagged m.counted n m.events.items
 
 -- What taking a token does where this symbol asks for one.
 pub record Shifted (old new : Machine) (s : Symbol) (c : Class) (n : ℕ) : Type 0 where

@@ -1,7 +1,7 @@
 //! Deriving: the classes of tokens to the events of their derivation, or the first wrong token.
 
-ghost use Rattle.std.specs.Prelude.{◌≢◌, IfErr, IfOk};
-ghost use Rattle.av_derive.specs.Derivation.{Derived, IsOnly, IsWrongAt};
+ghost use Rattle.std.specs.Prelude.{◌≡◌, ◌≢◌, take, IfErr, IfOk};
+ghost use Rattle.av_derive.specs.Derivation.{Derived, IsOnly, IsWrongAt, Viable, IsDeepAt, IsPlainAt};
 
 use super::machine::{Event, Limits, Machine, Stop};
 use av_tree::Class;
@@ -24,6 +24,9 @@ pub fn derive(alloc: Global, classes: &[Class], limits: Limits) -> Result<Vec<Ev
     ensures derived { IfOk result (λ events. Derived limits classes.now events.items) }
     ensures only { IfOk result (λ events. IsOnly classes.now events.items) }
     ensures wrong { IfErr result (λ refused. refused.stop ≢ Stop.NoMemory → IsWrongAt limits classes.now refused.at) }
+    ensures completable { IfErr result (λ refused. refused.stop ≢ Stop.NoMemory → Viable limits (take refused.at classes.now)) }
+    ensures deep { IfErr result (λ refused. refused.stop ≡ Stop.TooDeep → IsDeepAt classes.now refused.at) }
+    ensures plain { IfErr result (λ refused. refused.stop ≡ Stop.Wrong → IsPlainAt classes.now refused.at) }
 {
     let Ok(count) = u32::try_from(classes.len()) else {
         return Err(Refused {

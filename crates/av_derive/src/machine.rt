@@ -1,9 +1,10 @@
 //! The predictive machine: a stack of symbols, which one token after another uses up.
 
-ghost use Rattle.std.specs.Prelude.{◌≡◌, ◌≢◌, ◌+◌, ◌<◌, ◌≤◌, ◌++◌, ◌∷◌, [], false, drop, length, reverse, take, IfErr, IfOk, OnOk};
+ghost use Rattle.std.specs.Prelude.{◌≡◌, ◌≢◌, ◌+◌, ◌<◌, ◌≤◌, ◌++◌, ◌∷◌, ◌⊎◌, ◌||◌, [], false, true, drop, length, reverse, take, IfErr, IfOk, OnOk};
 ghost use Rattle.av_tree.specs.Classes.{bracket_of as bracket_of_class};
 ghost use Rattle.av_tree.specs.Needs.{need_of};
-ghost use Rattle.av_derive.specs.Derivation.{Derived, NoneBegins, NoneDerives, IsOnly, opened, signs_with};
+ghost use Rattle.av_tree.specs.Signs.{counts_sign as counts_sign_of};
+ghost use Rattle.av_derive.specs.Derivation.{Derived, NoneBegins, NoneDerives, IsOnly, IsDeepAt, IsPlainAt, opened, signs_with};
 ghost use Rattle.av_derive.specs.State.{Expanded, Fits, Shifted, Stands, StandsFresh, ahead as ahead_of};
 
 use av_tree::table::{
@@ -110,6 +111,8 @@ impl Machine {
         ensures stands { OnOk result (Stands self.new classes.now (at + 1)) }
         ensures limits { OnOk result (self.new.limits ≡ self.old.limits) }
         ensures wrong { IfErr result (λ stop. stop ≢ Stop.NoMemory → NoneBegins self.old.limits (take (at + 1) classes.now)) }
+        ensures deep { IfErr result (λ stop. stop ≡ Stop.TooDeep → IsDeepAt classes.now at) }
+        ensures plain { IfErr result (λ stop. stop ≡ Stop.Wrong → IsPlainAt classes.now at) }
     {
         match self.expand(classes, at)? {
             Some(symbol) => self.shift(symbol, classes[at as usize], at),
@@ -128,6 +131,7 @@ impl Machine {
         ensures derived { IfOk result (λ events. Derived self.limits classes.now events.items) }
         ensures only { IfOk result (λ events. IsOnly classes.now events.items) }
         ensures wrong { IfErr result (λ stop. stop ≢ Stop.NoMemory → NoneDerives self.limits classes.now) }
+        ensures plain { IfErr result (λ stop. stop ≢ Stop.TooDeep) }
     {
         match self.expand(classes, count)? {
             Some(_) => Err(Stop::Wrong),
@@ -172,12 +176,14 @@ impl Machine {
         ensures brackets { self.new.depth ≡ self.old.depth }
         ensures events { OnOk result (self.new.events.items ≡ self.old.events.items ++ Event.Row rule at ∷ []) }
         ensures under { OnOk result (self.new.over ≡ false → self.old.over ≡ false) }
+        ensures room { OnOk result (self.new.over ≡ false → self.old.depth + need_of rule ≤ self.old.limits.brackets) }
+        ensures flag { OnOk result (self.new.counted ≡ (self.old.counted || counts_sign_of rule)) }
         ensures within { OnOk result (self.old.over ≡ false → self.old.depth + need_of rule ≤ self.old.limits.brackets → signs_with rule self.old.signs ≤ self.old.limits.signs → self.new.over ≡ false) }
         ensures counted { OnOk result (self.new.over ≡ false → self.new.signs ≡ signs_with rule self.old.signs) }
         ensures signs { OnOk result (self.new.over ≡ false → self.old.signs ≤ self.old.limits.signs → self.new.signs ≤ self.old.limits.signs) }
     {
         self.events.push(Event::Row { rule, at })?;
-        if self.depth.saturating_add(need(rule)) > self.limits.brackets {
+        if u64::from(self.depth) + u64::from(need(rule)) > u64::from(self.limits.brackets) {
             self.over = true;
         }
         if begins_expression(rule) {
@@ -197,6 +203,8 @@ impl Machine {
     fn shift(&mut self, symbol: Symbol, class: Class, at: u32) -> Result<(), Stop>
         ensures shifted { OnOk result (Shifted self.old self.new symbol class at) }
         ensures wrong { IfErr result (λ stop. Fits symbol class → self.old.over ≡ false → opened (bracket_of_class class) self.old.depth ≤ self.old.limits.brackets → stop ≡ Stop.NoMemory) }
+        ensures deep { IfErr result (λ stop. stop ≡ Stop.TooDeep → Fits symbol class × ((self.old.counted ≡ true) ⊎ (bracket_of_class class ≡ Bracket.Opens))) }
+        ensures plain { IfErr result (λ stop. stop ≡ Stop.Wrong → Fits symbol class → (self.old.counted ≡ false) × (bracket_of_class class ≢ Bracket.Opens)) }
     {
         let (fitting, spelled) = match symbol {
             Symbol::Sign(sign) => (class == Class::Sign(sign), false),

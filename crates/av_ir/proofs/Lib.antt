@@ -3,3 +3,8 @@ pub mod Insides
 pub mod Pairs
 pub mod Memories
 pub mod Levels
+pub mod MarkedLevels
+pub mod Turns
+pub mod MadeParts
+pub mod Flags
+pub mod InnerLoops

@@ -6,3 +6,5 @@ pub mod Run
 pub mod OneLevel
 pub mod ScalarRun
 pub mod Examples
+pub mod Marks
+pub mod MarkedRuns

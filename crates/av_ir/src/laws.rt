@@ -1,6 +1,7 @@
 //! What holds of runs, for the proofs of callers. These functions do nothing.
 ghost use Rattle.std.specs.Prelude.{ℕ};
 ghost use Rattle.av_ir.specs.Examples.{AddExamples, LoadExamples, LoopExamples};
+ghost use Rattle.av_ir.specs.MarkedRuns.{MarkedModuleLaw, MarkedOpLaw, MarkedRegionLaw};
 ghost use Rattle.av_ir.specs.OneLevel.{OpLaw, RegionLaw};
 ghost use Rattle.av_ir.specs.ScalarRun.{perform};
 
@@ -15,4 +16,11 @@ pub fn worked_examples()
     ensures load { (number : ℕ) → LoadExamples number }
     ensures add { (number : ℕ) → AddExamples number }
     ensures looped { (number : ℕ) → LoopExamples number }
+{}
+
+/// Marks change no run.
+pub fn marks_change_no_run()
+    ensures op { MarkedOpLaw }
+    ensures region { MarkedRegionLaw }
+    ensures module { MarkedModuleLaw }
 {}

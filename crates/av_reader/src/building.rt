@@ -8,6 +8,8 @@ mod affine;
 mod attributes;
 mod expressions;
 mod files;
+mod joining;
+mod numbers;
 mod regions;
 mod stack;
 mod subscripts;

@@ -1,23 +1,38 @@
 //! Maps, their parameters by name: `d0`, .. and `s0`, ...
 
+ghost use Rattle.std.specs.Prelude.{◌≡◌, IfOk, map};
+ghost use Rattle.av_totree.specs.Maps.{expression_of, leaf_name as name_of_leaf, map_of, names_of};
+ghost use Rattle.av_totree.specs.Texts.{numbered as numbered_text};
+
 use crate::texts::numbered;
 use av_affine::{AffMap, Expr, Held, Leaf, No, Seq, Text};
 use av_tree::{ExprText, MapText};
 use std::alloc::{AllocError, Global};
 
-pub(crate) fn map_text(alloc: Global, map: &AffMap) -> Result<MapText, AllocError> {
-    let mut results = Seq::new(alloc);
-    for result in map.results.as_slice() {
-        results.push(expression_text(alloc, result)?)?;
-    }
+/// A map, its parameters by name.
+pub(crate) fn map_text(alloc: Global, map: &AffMap) -> Result<MapText, AllocError>
+    ensures { IfOk result (λ t. t ≡ map_of map.now) }
+{
     Ok(MapText {
         dims: parameter_names(alloc, "d", map.dims)?,
         syms: parameter_names(alloc, "s", map.syms)?,
-        results,
+        results: expression_texts(alloc, map.results.as_slice())?,
     })
 }
 
-fn parameter_names(alloc: Global, letter: &str, count: No) -> Result<Seq<Text>, AllocError> {
+fn expression_texts(alloc: Global, exprs: &[Expr]) -> Result<Seq<ExprText>, AllocError>
+    ensures { IfOk result (λ t. t ≡ map expression_of exprs.now) }
+{
+    let mut texts = Seq::new(alloc);
+    for expr in exprs {
+        texts.push(expression_text(alloc, expr)?)?;
+    }
+    Ok(texts)
+}
+
+fn parameter_names(alloc: Global, letter: &str, count: No) -> Result<Seq<Text>, AllocError>
+    ensures { IfOk result (λ t. t ≡ names_of (numbered_text letter.now) count) }
+{
     let mut names = Seq::new(alloc);
     for number in 0..count {
         names.push(numbered(alloc, letter, number)?)?;
@@ -26,7 +41,9 @@ fn parameter_names(alloc: Global, letter: &str, count: No) -> Result<Seq<Text>, 
 }
 
 #[cycle(spelling)]
-fn expression_text(alloc: Global, expr: &Expr) -> Result<ExprText, AllocError> {
+fn expression_text(alloc: Global, expr: &Expr) -> Result<ExprText, AllocError>
+    ensures { IfOk result (λ t. t ≡ expression_of expr.now) }
+{
     match expr {
         Expr::Param(leaf) => Ok(ExprText::Name(leaf_name(alloc, *leaf)?)),
         Expr::Const(value) => Ok(ExprText::Const(*value)),
@@ -41,11 +58,15 @@ fn expression_text(alloc: Global, expr: &Expr) -> Result<ExprText, AllocError> {
 }
 
 #[cycle(spelling)]
-fn side(alloc: Global, expr: &Held<Expr>) -> Result<Held<ExprText>, AllocError> {
+fn side(alloc: Global, expr: &Held<Expr>) -> Result<Held<ExprText>, AllocError>
+    ensures { IfOk result (λ t. t ≡ expression_of expr.now) }
+{
     Held::new(alloc, expression_text(alloc, expr.get())?)
 }
 
-fn leaf_name(alloc: Global, leaf: Leaf) -> Result<Text, AllocError> {
+fn leaf_name(alloc: Global, leaf: Leaf) -> Result<Text, AllocError>
+    ensures { IfOk result (λ t. t ≡ name_of_leaf leaf) }
+{
     match leaf {
         Leaf::Dim(number) => numbered(alloc, "d", number),
         Leaf::Sym(number) => numbered(alloc, "s", number),

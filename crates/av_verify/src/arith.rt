@@ -6,10 +6,10 @@ use super::refusal::{Code, VerifyRefusal, ask, bad};
 use super::results::{has_results, new_result};
 use super::rows::Row;
 use super::scope::Scope;
-use super::types::{agrees, scalar_of, width_of, written_scalar};
+use super::types::{agrees, scalar_of, written_scalar};
 use av_affine::{No, Seq};
 use av_bits::{BinOp, Width, signed, wrap};
-use av_ir::{Const, Elem, Op, OpKind, Ty, ValueId};
+use av_ir::{Const, Elem, Op, OpKind, Ty, ValueId, width};
 use av_tree::{Attr, Node};
 
 /// A constant: one number of a scalar type.
@@ -21,9 +21,9 @@ pub(crate) fn constant(scope: &mut Scope, node: &Node, number: No) -> Result<Op,
     ask_entries(Row::Constant, node, number)?;
     let value = number_in(node, b"value").ok_or(bad(number, Code::Property))?;
     ask(node.regions.is_empty(), number, Code::Regions)?;
-    let width = width_of(elem);
-    ask(fits(width, value), number, Code::Constant)?;
-    let kind = OpKind::ArithConstant(Const::Splat(wrap(width, value)));
+    let bits = width(elem);
+    ask(fits(bits, value), number, Code::Constant)?;
+    let kind = OpKind::ArithConstant(Const::Splat(wrap(bits, value)));
     let result = scope.define(name, Ty::Scalar(elem))?;
     let none = Seq::new(scope.alloc());
     Ok(op_with_result(scope.alloc(), number, kind, none, result)?)

@@ -1,8 +1,12 @@
 //! Properties and attributes, which are one list of entries.
 
-ghost use Rattle.std.specs.Prelude.{◌≡◌};
+ghost use Rattle.std.specs.Prelude.{◌≡◌, ◌==◌, ◌≤◌, length, count_by, is_some};
+ghost use Rattle.std.specs.List.{list_all, list_any};
+ghost use Rattle.std.specs.Str.{bytes_eq};
+ghost use Rattle.av_verify.specs.Codes.{Asked, first_failing};
+ghost use Rattle.av_verify.specs.Rows.{mark_name, property_names};
 ghost use Rattle.std.specs.Option.{option_copied};
-ghost use Rattle.av_verify.specs.Entries.{entry_of, first_of, map_of, mark_number_of, number_of};
+ghost use Rattle.av_verify.specs.Entries.{entry_of, entry_rules, first_of, has_good_entries, has_needed, is_entry, is_good_mark, is_known, is_once, is_property, map_of, mark_number_of, marks_of, number_of};
 
 use super::refusal::{Code, VerifyRefusal, ask};
 use super::rows::{Row, mark_of, properties_of};
@@ -70,65 +74,110 @@ pub(crate) fn mark_number(value: &Attr) -> Option<No>
 }
 
 /// Asks an operation's entries: the needed ones are there, and each is known, in its form and alone.
-pub(crate) fn ask_entries(row: Row, node: &Node, number: No) -> Result<(), VerifyRefusal> {
-    let needed = properties_of(row);
-    for name in needed {
-        ask(entry(node, name).is_some(), number, Code::Needed)?;
-    }
-    for name in needed {
-        ask(times(node, name) == 1, number, Code::Property)?;
-    }
-    let known = are_known(row, node.properties.as_slice()) && are_known(row, node.attrs.as_slice());
-    ask(known && has_good_mark(row, node), number, Code::Property)
+pub(crate) fn ask_entries(row: Row, node: &Node, number: No) -> Result<(), VerifyRefusal>
+    ensures { Asked number (first_failing (entry_rules row node.now)) result (λ u. Unit {0}) }
+{
+    ask(has_needed(row, node), number, Code::Needed)?;
+    ask(has_good_entries(row, node), number, Code::Property)
 }
 
-// How many entries of an operation have this name.
-fn times(node: &Node, name: &[u8]) -> usize {
-    let mut times: usize = 0;
-    for entry in node.properties.as_slice() {
-        if entry.name.as_slice() == name {
-            times = times.saturating_add(1);
-        }
-    }
-    for entry in node.attrs.as_slice() {
-        if entry.name.as_slice() == name {
-            times = times.saturating_add(1);
-        }
-    }
-    times
+fn has_needed(row: Row, node: &Node) -> bool
+    ensures { result ≡ has_needed row node.now }
+{
+    has_all(node, properties_of(row))
 }
 
-// Whether each entry is a property, a mark, or an attribute that is dropped: these two have a dot.
-fn are_known(row: Row, entries: &[Named]) -> bool {
-    for entry in entries {
-        let name = entry.name.as_slice();
-        if !is_property(row, name) && !name.contains(&b'.') {
-            return false;
-        }
-    }
-    true
+fn has_all(node: &Node, names: &[&[u8]]) -> bool
+    ensures { result ≡ list_all (λ name. is_some (entry_of name.now node.now)) names.now }
+{
+    names.iter().all(|name| entry(node, name).is_some())
 }
 
-fn is_property(row: Row, name: &[u8]) -> bool {
-    for property in properties_of(row) {
-        if *property == name {
-            return true;
-        }
-    }
-    false
+fn has_good_entries(row: Row, node: &Node) -> bool
+    ensures { result ≡ has_good_entries row node.now }
+{
+    has_each_once(row, node)
+        && are_known(row, node.properties.as_slice())
+        && are_known(row, node.attrs.as_slice())
+        && has_good_mark(row, node)
+}
+
+fn has_each_once(row: Row, node: &Node) -> bool
+    ensures { result ≡ list_all (λ name. is_once name node.now) (property_names row) }
+{
+    are_once(node, properties_of(row))
+}
+
+fn are_once(node: &Node, names: &[&[u8]]) -> bool
+    ensures { result ≡ list_all (λ name. is_once name.now node.now) names.now }
+{
+    names.iter().all(|name| is_once(node, name))
+}
+
+// Whether an operation has one entry of this name.
+fn is_once(node: &Node, name: &[u8]) -> bool
+    ensures { result ≡ is_once name.now node.now }
+{
+    times(node.properties.as_slice(), name) + times(node.attrs.as_slice(), name) == 1
+}
+
+// How many entries have this name.
+fn times(entries: &[Named], name: &[u8]) -> usize
+    ensures value { result ≡ count_by (is_entry name.now) entries.now }
+    ensures most { result ≤ length entries.now }
+{
+    entries
+        .iter()
+        .filter(|entry| entry.name.as_slice() == name)
+        .count()
+}
+
+fn are_known(row: Row, entries: &[Named]) -> bool
+    ensures { result ≡ list_all (is_known row) entries.now }
+{
+    entries.iter().all(|entry| is_known(row, entry))
+}
+
+// Whether an entry is a property, a mark, or an attribute that is dropped: these two have a dot.
+fn is_known(row: Row, entry: &Named) -> bool
+    ensures { result ≡ is_known row entry.now }
+{
+    is_property(row, entry.name.as_slice()) || has_dot(entry.name.as_slice())
+}
+
+fn has_dot(name: &[u8]) -> bool
+    ensures { result ≡ list_any (λ byte. byte == 46) name.now }
+{
+    name.iter().any(|byte| *byte == b'.')
+}
+
+fn is_property(row: Row, name: &[u8]) -> bool
+    ensures { result ≡ is_property row name.now }
+{
+    is_among(properties_of(row), name)
+}
+
+fn is_among(names: &[&[u8]], name: &[u8]) -> bool
+    ensures { result ≡ list_any (λ one. bytes_eq one.now name.now) names.now }
+{
+    names.iter().any(|one| *one == name)
 }
 
 // The operation's mark, if it stands, stands once and with a number.
-fn has_good_mark(row: Row, node: &Node) -> bool {
+fn has_good_mark(row: Row, node: &Node) -> bool
+    ensures { result ≡ is_good_mark (is_once (mark_name row) node.now) (entry_of (mark_name row) node.now) }
+{
     let mark = mark_of(row);
     match entry(node, mark) {
-        Some(value) => mark_number(value).is_some() && times(node, mark) == 1,
+        Some(value) => mark_number(value).is_some() && is_once(node, mark),
         None => true,
     }
 }
 
 /// The marks of an operation.
-pub(crate) fn marks_of(row: Row, node: &Node) -> Marks {
+pub(crate) fn marks_of(row: Row, node: &Node) -> Marks
+    ensures { result ≡ marks_of row node.now }
+{
     let number = match entry(node, mark_of(row)) {
         Some(value) => mark_number(value),
         None => None,

@@ -1,3 +1,6 @@
+ghost use Rattle.std.specs.Prelude.{◌≡◌, true, false, MatchResult};
+ghost use Rattle.av_verify.specs.Codes.{number_of_code};
+
 use av_affine::No;
 use std::alloc::{AllocError, AllocFailed};
 use thiserror::Error;
@@ -66,12 +69,16 @@ pub(crate) enum Code {
 }
 
 /// The refusal of an operation by a rule.
-pub(crate) fn bad(number: No, code: Code) -> VerifyRefusal {
+pub(crate) fn bad(number: No, code: Code) -> VerifyRefusal
+    ensures { result ≡ VerifyRefusal.Bad number (number_of_code code) }
+{
     VerifyRefusal::Bad(number, code as u8)
 }
 
 /// Asks a rule at an operation.
-pub(crate) fn ask(holds: bool, number: No, code: Code) -> Result<(), VerifyRefusal> {
+pub(crate) fn ask(holds: bool, number: No, code: Code) -> Result<(), VerifyRefusal>
+    ensures { MatchResult result (λ u. holds ≡ true) (λ e. (holds ≡ false) × (e ≡ VerifyRefusal.Bad number (number_of_code code))) }
+{
     if holds {
         Ok(())
     } else {

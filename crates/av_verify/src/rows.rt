@@ -1,7 +1,7 @@
 //! The operations that are known, and the properties of each.
 
-ghost use Rattle.std.specs.Prelude.{◌≡◌};
-ghost use Rattle.av_verify.specs.Rows.{mark_name};
+ghost use Rattle.std.specs.Prelude.{◌≡◌, map};
+ghost use Rattle.av_verify.specs.Rows.{mark_name, property_names};
 
 use av_bits::BinOp;
 
@@ -36,7 +36,9 @@ pub(crate) fn row_of(name: &[u8]) -> Option<Row> {
 }
 
 /// The properties that an operation has, all of which it needs.
-pub(crate) fn properties_of(row: Row) -> &'static [&'static [u8]] {
+pub(crate) fn properties_of(row: Row) -> &'static [&'static [u8]]
+    ensures { map (λ name. name.now) result.now ≡ property_names row }
+{
     match row {
         Row::Function => &[b"sym_name", b"function_type"],
         Row::Constant => &[b"value"],

@@ -1,7 +1,7 @@
 //! The values of a function so far, and the names that are visible.
 
 use super::refusal::{Code, VerifyRefusal, ask, bad};
-use super::types::{agrees, argument_type};
+use super::types::{agrees, type_of};
 use av_affine::{No, Seq};
 use av_ir::{Ty, ValueId};
 use av_tree::{Body, BodyArg, Node};
@@ -138,7 +138,7 @@ impl Scope {
     ) -> Result<Seq<ValueId>, VerifyRefusal> {
         let mut values = Seq::new(self.alloc);
         for arg in args {
-            let ty = argument_type(self.alloc, &arg.ty, number)?;
+            let ty = type_of(self.alloc, &arg.ty)?.ok_or(bad(number, Code::Types))?;
             let value = self.add(ty, role)?;
             values.push(value)?;
         }

@@ -1,11 +1,16 @@
 //! Types as they are written, and the types of values.
 
-use super::refusal::{Code, VerifyRefusal, bad};
-use av_affine::{No, Seq};
+ghost use Rattle.std.specs.Prelude.{◌≡◌, true, IfOk};
+ghost use Rattle.std.specs.Cmp.Lexicographic.{pointwise};
+ghost use Rattle.std.specs.List.{list_all};
+ghost use Rattle.std.specs.Option.{SomeIff};
+ghost use Rattle.av_verify.specs.Types.{agrees, elem_of, extent_of, extents_of, is_elem, is_extent, is_small, is_type, is_within_limits, memref_of, names_elem, scalar_of, type_of, written_scalar};
+
+use av_affine::Seq;
 use av_bits::Width;
 use av_ir::{Elem, Extent, Ty};
 use av_tree::{SizeText, TypeText};
-use std::alloc::Global;
+use std::alloc::{AllocError, Global};
 
 /// The greatest number of sizes of a memref type.
 const MAX_RANK: usize = 8;
@@ -14,28 +19,30 @@ const MAX_RANK: usize = 8;
 const MAX_SIZE: u128 = 0x7FFF_FFFF;
 
 /// The element type of this name, if there is one.
-pub(crate) fn elem_of(name: &[u8]) -> Option<Elem> {
-    match name {
-        b"index" => Some(Elem::Index),
-        b"i1" => Some(Elem::Int(Width::W1)),
-        b"i8" => Some(Elem::Int(Width::W8)),
-        b"i16" => Some(Elem::Int(Width::W16)),
-        b"i32" => Some(Elem::Int(Width::W32)),
-        b"i64" => Some(Elem::Int(Width::W64)),
-        _ => None,
-    }
-}
-
-/// The width of the elements of a type.
-pub(crate) fn width_of(elem: Elem) -> Width {
-    match elem {
-        Elem::Int(width) => width,
-        Elem::Index => Width::W64,
+pub(crate) fn elem_of(name: &[u8]) -> Option<Elem>
+    ensures { result ≡ elem_of name.now }
+{
+    if name == b"index".as_slice() {
+        Some(Elem::Index)
+    } else if name == b"i1".as_slice() {
+        Some(Elem::Int(Width::W1))
+    } else if name == b"i8".as_slice() {
+        Some(Elem::Int(Width::W8))
+    } else if name == b"i16".as_slice() {
+        Some(Elem::Int(Width::W16))
+    } else if name == b"i32".as_slice() {
+        Some(Elem::Int(Width::W32))
+    } else if name == b"i64".as_slice() {
+        Some(Elem::Int(Width::W64))
+    } else {
+        None
     }
 }
 
 /// The element type that a written scalar type names.
-pub(crate) fn written_scalar(ty: &TypeText) -> Option<Elem> {
+pub(crate) fn written_scalar(ty: &TypeText) -> Option<Elem>
+    ensures { result ≡ written_scalar ty.now }
+{
     match ty {
         TypeText::Scalar(name) => elem_of(name.as_slice()),
         _ => None,
@@ -43,7 +50,9 @@ pub(crate) fn written_scalar(ty: &TypeText) -> Option<Elem> {
 }
 
 /// The element type of a scalar type.
-pub(crate) fn scalar_of(ty: &Ty) -> Option<Elem> {
+pub(crate) fn scalar_of(ty: &Ty) -> Option<Elem>
+    ensures { result ≡ scalar_of ty.now }
+{
     match ty {
         Ty::Scalar(elem) => Some(*elem),
         _ => None,
@@ -51,7 +60,9 @@ pub(crate) fn scalar_of(ty: &Ty) -> Option<Elem> {
 }
 
 /// Whether a written type is that of some value. Vectors aren't taken yet.
-pub(crate) fn is_type(ty: &TypeText) -> bool {
+pub(crate) fn is_type(ty: &TypeText) -> bool
+    ensures { result ≡ is_type ty.now }
+{
     match ty {
         TypeText::Scalar(name) | TypeText::MemRef { elem: name, .. } => {
             elem_of(name.as_slice()).is_some()
@@ -61,90 +72,157 @@ pub(crate) fn is_type(ty: &TypeText) -> bool {
 }
 
 /// Whether rank and sizes of a written type are within their limits; layouts aren't taken yet.
-pub(crate) fn is_within_limits(ty: &TypeText) -> bool {
-    let TypeText::MemRef { sizes, layout, .. } = ty else {
-        return true;
-    };
-    for size in sizes.as_slice() {
-        if let SizeText::Fixed(size) = size {
-            if *size > MAX_SIZE {
-                return false;
-            }
-        }
+pub(crate) fn is_within_limits(ty: &TypeText) -> bool
+    ensures { result ≡ is_within_limits ty.now }
+{
+    match ty {
+        TypeText::MemRef { sizes, layout, .. } => layout.is_none()
+            && sizes.len() <= MAX_RANK
+            && are_small(sizes.as_slice()),
+        _ => true,
     }
-    layout.is_none() && sizes.len() <= MAX_RANK
 }
 
-/// The type of a block argument whose written type is within its limits.
-pub(crate) fn argument_type(alloc: Global, ty: &TypeText, number: No) -> Result<Ty, VerifyRefusal> {
+fn are_small(sizes: &[SizeText]) -> bool
+    ensures { result ≡ list_all is_small sizes.now }
+{
+    sizes.iter().all(|size| is_small(*size))
+}
+
+fn is_small(size: SizeText) -> bool
+    ensures { result ≡ is_small size }
+{
+    match size {
+        SizeText::Fixed(size) => size <= MAX_SIZE,
+        SizeText::Dynamic => true,
+    }
+}
+
+/// The type that a written type is, where its sizes are small.
+pub(crate) fn type_of(alloc: Global, ty: &TypeText) -> Result<Option<Ty>, AllocError>
+    ensures { IfOk result (λ t. t ≡ type_of ty.now) }
+{
     match ty {
         TypeText::Scalar(name) => match elem_of(name.as_slice()) {
-            Some(elem) => Ok(Ty::Scalar(elem)),
-            None => Err(bad(number, Code::Types)),
+            Some(elem) => Ok(Some(Ty::Scalar(elem))),
+            None => Ok(None),
         },
-        TypeText::MemRef { sizes, elem, .. } => match elem_of(elem.as_slice()) {
-            Some(elem) => Ok(Ty::MemRef {
-                sizes: extents(alloc, sizes.as_slice(), number)?,
-                elem,
-            }),
-            None => Err(bad(number, Code::Types)),
-        },
-        _ => Err(bad(number, Code::Types)),
+        TypeText::MemRef { sizes, elem, .. } => memref_of(alloc, sizes.as_slice(), elem.as_slice()),
+        _ => Ok(None),
     }
 }
 
-fn extents(alloc: Global, sizes: &[SizeText], number: No) -> Result<Seq<Extent>, VerifyRefusal> {
+fn memref_of(alloc: Global, sizes: &[SizeText], elem: &[u8]) -> Result<Option<Ty>, AllocError>
+    ensures { IfOk result (λ t. t ≡ memref_of (elem_of elem.now) (extents_of sizes.now)) }
+{
+    let Some(elem) = elem_of(elem) else {
+        return Ok(None);
+    };
+    match extents(alloc, sizes)? {
+        Some(sizes) => Ok(Some(Ty::MemRef { sizes, elem })),
+        None => Ok(None),
+    }
+}
+
+fn extents(alloc: Global, sizes: &[SizeText]) -> Result<Option<Seq<Extent>>, AllocError>
+    ensures { IfOk result (λ e. e ≡ extents_of sizes.now) }
+{
     let mut extents = Seq::new(alloc);
     for size in sizes {
-        let extent = match size {
-            SizeText::Fixed(size) => match u64::try_from(*size) {
-                Ok(size) => Extent::Fixed(size),
-                Err(_) => return Err(bad(number, Code::Limit)),
-            },
-            SizeText::Dynamic => Extent::Dyn,
-        };
-        extents.push(extent)?;
+        match extent_of(*size) {
+            Some(extent) => extents.push(extent)?,
+            None => return Ok(None),
+        }
     }
-    Ok(extents)
+    Ok(Some(extents))
+}
+
+// The extent of a small size.
+fn extent_of(size: SizeText) -> Option<Extent>
+    ensures { SomeIff result (is_small size ≡ true) (extent_of size) }
+{
+    match size {
+        SizeText::Fixed(size) => {
+            if size <= MAX_SIZE {
+                Some(Extent::Fixed(size as u64))
+            } else {
+                None
+            }
+        }
+        SizeText::Dynamic => Some(Extent::Dyn),
+    }
 }
 
 /// Whether a type that is written, or left out, agrees with the type of its value.
-pub(crate) fn agrees(written: &Option<TypeText>, ty: &Ty) -> bool {
-    match (written, ty) {
-        (None, _) => true,
-        (Some(TypeText::Scalar(name)), Ty::Scalar(elem)) => {
-            elem_of(name.as_slice()) == Some(*elem)
-        }
-        (
-            Some(
-                TypeText::MemRef {
-                    sizes,
-                    elem: name,
-                    layout: None,
-                },
-            ),
+pub(crate) fn agrees(written: &Option<TypeText>, ty: &Ty) -> bool
+    ensures { result ≡ agrees written.now ty.now }
+{
+    match written {
+        None => true,
+        Some(TypeText::Scalar(name)) => match ty {
+            Ty::Scalar(elem) => names_elem(name.as_slice(), *elem),
+            _ => false,
+        },
+        Some(
+            TypeText::MemRef {
+                sizes,
+                elem: name,
+                layout: None,
+            },
+        ) => match ty {
             Ty::MemRef {
                 sizes: extents,
                 elem,
-            },
-        ) => {
-            elem_of(name.as_slice()) == Some(*elem)
-                && are_sizes(sizes.as_slice(), extents.as_slice())
-        }
-        _ => false,
+            } => names_elem(name.as_slice(), *elem)
+                && are_extents(sizes.as_slice(), extents.as_slice()),
+            _ => false,
+        },
+        Some(_) => false,
     }
 }
 
-fn are_sizes(sizes: &[SizeText], extents: &[Extent]) -> bool {
-    for (size, extent) in sizes.iter().zip(extents) {
-        let same = match (size, extent) {
-            (SizeText::Fixed(size), Extent::Fixed(extent)) => *size == u128::from(*extent),
-            (SizeText::Dynamic, Extent::Dyn) => true,
-            _ => false,
-        };
-        if !same {
-            return false;
-        }
+fn names_elem(name: &[u8], elem: Elem) -> bool
+    ensures { result ≡ names_elem name.now elem }
+{
+    match elem_of(name) {
+        Some(named) => is_elem(elem, named),
+        None => false,
     }
-    sizes.len() == extents.len()
+}
+
+fn is_elem(elem: Elem, other: Elem) -> bool
+    ensures { result ≡ is_elem elem other }
+{
+    match elem {
+        Elem::Index => matches!(other, Elem::Index),
+        Elem::Int(width) => match other {
+            Elem::Int(other) => width == other,
+            Elem::Index => false,
+        },
+    }
+}
+
+// Both lists end together, so nothing is looked at past the end of the shorter one.
+fn are_extents(sizes: &[SizeText], extents: &[Extent]) -> bool
+    ensures { result ≡ pointwise is_extent sizes.now extents.now }
+{
+    match sizes {
+        [] => extents.is_empty(),
+        [size, sizes @ ..] => match extents {
+            [] => false,
+            [extent, extents @ ..] => is_extent(*size, *extent) && are_extents(sizes, extents),
+        },
+    }
+}
+
+fn is_extent(size: SizeText, extent: Extent) -> bool
+    ensures { result ≡ is_extent size extent }
+{
+    match size {
+        SizeText::Fixed(size) => match extent {
+            Extent::Fixed(extent) => size == u128::from(extent),
+            Extent::Dyn => false,
+        },
+        SizeText::Dynamic => matches!(extent, Extent::Dyn),
+    }
 }

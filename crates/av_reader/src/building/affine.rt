@@ -1,11 +1,11 @@
 //! Rows of operations of the Affine dialect.
 
-use super::attributes::integer_of;
 use super::files::push_node;
+use super::numbers::integer_of;
 use super::regions::plain_node;
-use super::stack::{Fault, Stack, before, in_order, text_of};
+use super::stack::{Fault, Stack, in_order, text_of};
 use super::subscripts::{Numbering, place_map};
-use super::value::{Carried, CarriedPair, Expression, MapUse, Value};
+use super::value::{Carried, CarriedPair, MapUse, Value};
 use av_affine::{Duplicate, Seq, Text};
 use av_tree::table::AffineRule;
 use av_tree::{Attr, Body, BodyArg, ExprText, MapText, Named, Node, TypeText};
@@ -31,15 +31,14 @@ pub(super) fn reduce(stack: &mut Stack, rule: AffineRule, place: u32) -> Result<
             stack.push(Value::Number(step))
         }
         AffineRule::NoIterArgs | AffineRule::NoCarried | AffineRule::NoMoreCarried => {
-            let pairs = Vec::new(stack.alloc());
-            let types = Vec::new(stack.alloc());
+            let pairs = Seq::new(stack.alloc());
+            let types = Seq::new(stack.alloc());
             stack.push(Value::Carried(Carried { pairs, types }))
         }
         AffineRule::FirstCarried | AffineRule::NextCarried => carried(stack),
         AffineRule::MapWritten => {
             let map = stack.attr()?;
-            let mut operands = stack.texts()?;
-            operands.reverse();
+            let operands = in_order(stack.texts()?);
             stack.push(Value::MapUse(MapUse { map, operands }))
         }
         AffineRule::DimensionOperands => {
@@ -64,7 +63,7 @@ fn number_bound(stack: &mut Stack) -> Result<(), Fault> {
     };
     stack.push(Value::MapUse(MapUse {
         map: Attr::Map(map),
-        operands: Vec::new(alloc),
+        operands: Seq::new(alloc),
     }))
 }
 
@@ -80,22 +79,25 @@ fn value_bound(stack: &mut Stack) -> Result<(), Fault> {
         syms,
         results,
     };
+    let mut operands = Seq::new(alloc);
+    operands.push(value)?;
     stack.push(Value::MapUse(MapUse {
         map: Attr::Map(map),
-        operands: before(value, Vec::new(alloc))?,
+        operands,
     }))
 }
 
 fn carried(stack: &mut Stack) -> Result<(), Fault> {
     let name = stack.text()?;
     let init = stack.text()?;
-    let Carried { pairs, mut types } = stack.carried()?;
+    let Carried {
+        mut pairs,
+        mut types,
+    } = stack.carried()?;
     let ty = stack.ty()?;
+    pairs.push(CarriedPair { name, init })?;
     types.push(ty)?;
-    stack.push(Value::Carried(Carried {
-        pairs: before(CarriedPair { name, init }, pairs)?,
-        types,
-    }))
+    stack.push(Value::Carried(Carried { pairs, types }))
 }
 
 fn affine_for(stack: &mut Stack, place: u32) -> Result<(), Fault> {
@@ -167,8 +169,8 @@ fn bound(alloc: Global, node: &mut Node, name: &[u8], map_use: MapUse) -> Result
 }
 
 // Operands whose types aren't written.
-fn push_operands(node: &mut Node, operands: Vec<Text>) -> Result<(), Fault> {
-    for operand in operands {
+fn push_operands(node: &mut Node, operands: Seq<Text>) -> Result<(), Fault> {
+    for operand in operands.into_vec() {
         node.operands.push(operand)?;
         node.in_types.push(None)?;
     }
@@ -185,7 +187,7 @@ fn carry(
 ) -> Result<usize, Fault> {
     let Carried { mut pairs, types } = carried;
     let number = types.len();
-    for ty in types {
+    for ty in types.into_vec() {
         let CarriedPair { name, init } = pairs.pop().ok_or(Fault::Misshapen)?;
         node.operands.push(init)?;
         node.in_types.push(Some(ty.duplicate(alloc)?))?;
@@ -237,7 +239,7 @@ fn affine_store(stack: &mut Stack, place: u32) -> Result<(), Fault> {
 // The buffer, subscripts, dictionary and type of an access.
 fn access(stack: &mut Stack, node: &mut Node, buffer: Text) -> Result<(), Fault> {
     let alloc = stack.alloc();
-    let subscripts: Vec<Expression> = stack.expressions()?;
+    let subscripts = stack.expressions()?;
     node.attrs = in_order(stack.entries()?);
     let ty = stack.ty()?;
     node.operands.push(buffer)?;

@@ -1,9 +1,8 @@
 //! Rows of dictionaries and attributes, and of values, numbers and results.
 
+use super::numbers::integer_of;
 use super::stack::{Fault, Stack, before, text_of};
-use super::types::decimal;
 use super::value::Value;
-use av_affine::Text;
 use av_tree::table::{AttributeRule, ValueRule};
 use av_tree::{Attr, Named, TypeText};
 
@@ -86,14 +85,4 @@ pub(super) fn text_before(stack: &mut Stack) -> Result<(), Fault> {
 fn integer(stack: &mut Stack, negative: bool) -> Result<(), Fault> {
     let value = integer_of(&stack.text()?, negative);
     stack.push(Value::Number(value))
-}
-
-/// The number that decimal digits spell, with a `-` before them or without.
-pub(super) fn integer_of(digits: &Text, negative: bool) -> i128 {
-    let value = i128::try_from(decimal(digits.as_slice())).unwrap_or(i128::MAX);
-    if negative {
-        value.saturating_neg()
-    } else {
-        value
-    }
 }

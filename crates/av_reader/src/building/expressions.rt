@@ -1,12 +1,13 @@
 //! Rows of maps and expressions, and of subscripts, which are expressions with values for names.
 
-use super::attributes::{integer_of, text_before};
-use super::stack::{Fault, Stack, before, in_order};
+use super::attributes::text_before;
+use super::joining::{division, joined, results_of};
+use super::numbers::integer_of;
+use super::stack::{Fault, Stack, in_order};
 use super::value::{Expression, LeafKind, Operator, Parameters, Part, Value};
-use av_affine::{Held, Seq, Text};
+use av_affine::{Held, Seq};
 use av_tree::table::{MapRule, SubscriptRule};
 use av_tree::{Attr, ExprText, MapText};
-use std::alloc::Global;
 
 pub(super) fn reduce_map(stack: &mut Stack, rule: MapRule) -> Result<(), Fault> {
     match rule {
@@ -22,10 +23,10 @@ pub(super) fn reduce_map(stack: &mut Stack, rule: MapRule) -> Result<(), Fault> 
         MapRule::WrittenSymbolNames | MapRule::PlainFactor => Ok(()),
         MapRule::FirstWord | MapRule::NextWord => text_before(stack),
         MapRule::NoExpressions | MapRule::NoMoreExpressions => {
-            stack.push(Value::Expressions(Vec::new(stack.alloc())))
+            stack.push(Value::Expressions(Seq::new(stack.alloc())))
         }
         MapRule::FirstExpression | MapRule::NextExpression => expression_before(stack),
-        MapRule::WholeExpression | MapRule::WholeTerm | MapRule::InBrackets => joined(stack),
+        MapRule::WholeExpression | MapRule::WholeTerm | MapRule::InBrackets => whole(stack),
         MapRule::NoMoreTerms | MapRule::NoMoreFactors => no_parts(stack),
         MapRule::PlusTerm => part_before(stack, Operator::Add),
         MapRule::MinusTerm => part_before(stack, Operator::Sub),
@@ -37,7 +38,7 @@ pub(super) fn reduce_map(stack: &mut Stack, rule: MapRule) -> Result<(), Fault> 
         MapRule::NegatedBase => negated(stack),
         MapRule::ParameterName | MapRule::DivisionName => {
             let name = stack.text()?;
-            let leaves = Vec::new(stack.alloc());
+            let leaves = Seq::new(stack.alloc());
             stack.push(Value::Expression(Expression {
                 expr: ExprText::Name(name),
                 leaves,
@@ -49,12 +50,12 @@ pub(super) fn reduce_map(stack: &mut Stack, rule: MapRule) -> Result<(), Fault> 
 pub(super) fn reduce_subscript(stack: &mut Stack, rule: SubscriptRule) -> Result<(), Fault> {
     match rule {
         SubscriptRule::NoSubscripts | SubscriptRule::NoMoreSubscripts => {
-            stack.push(Value::Expressions(Vec::new(stack.alloc())))
+            stack.push(Value::Expressions(Seq::new(stack.alloc())))
         }
         SubscriptRule::FirstSubscript | SubscriptRule::NextSubscript => expression_before(stack),
         SubscriptRule::WholeSubscript
         | SubscriptRule::WholeSubscriptTerm
-        | SubscriptRule::SubscriptInBrackets => joined(stack),
+        | SubscriptRule::SubscriptInBrackets => whole(stack),
         SubscriptRule::NoMoreSubscriptTerms | SubscriptRule::NoMoreSubscriptFactors => no_parts(
             stack,
         ),
@@ -82,29 +83,22 @@ fn written_map(stack: &mut Stack) -> Result<(), Fault> {
     stack.push(Value::Attr(Attr::Map(map)))
 }
 
-// The expressions alone, in the order of the text.
-fn results_of(alloc: Global, mut expressions: Vec<Expression>) -> Result<Seq<ExprText>, Fault> {
-    let mut results = Seq::new(alloc);
-    while let Some(expression) = expressions.pop() {
-        results.push(expression.expr)?;
-    }
-    Ok(results)
-}
-
 fn expression_before(stack: &mut Stack) -> Result<(), Fault> {
     let expression = stack.expression()?;
-    let others = stack.expressions()?;
-    stack.push(Value::Expressions(before(expression, others)?))
+    let mut others = stack.expressions()?;
+    others.push(expression)?;
+    stack.push(Value::Expressions(others))
 }
 
 fn no_parts(stack: &mut Stack) -> Result<(), Fault> {
-    stack.push(Value::Parts(Vec::new(stack.alloc())))
+    stack.push(Value::Parts(Seq::new(stack.alloc())))
 }
 
 fn part_before(stack: &mut Stack, operator: Operator) -> Result<(), Fault> {
     let right = stack.expression()?;
-    let others = stack.parts()?;
-    stack.push(Value::Parts(before(Part { operator, right }, others)?))
+    let mut others = stack.parts()?;
+    others.push(Part { operator, right })?;
+    stack.push(Value::Parts(others))
 }
 
 fn division_before(stack: &mut Stack) -> Result<(), Fault> {
@@ -112,17 +106,9 @@ fn division_before(stack: &mut Stack) -> Result<(), Fault> {
     part_before(stack, operator)
 }
 
-fn division(word: &Text) -> Operator {
-    match word.as_slice() {
-        b"floordiv" => Operator::Floor,
-        b"ceildiv" => Operator::Ceil,
-        _ => Operator::Mod,
-    }
-}
-
 fn constant(stack: &mut Stack, negative: bool) -> Result<(), Fault> {
     let value = integer_of(&stack.text()?, negative);
-    let leaves = Vec::new(stack.alloc());
+    let leaves = Seq::new(stack.alloc());
     stack.push(Value::Expression(Expression {
         expr: ExprText::Const(value),
         leaves,
@@ -140,7 +126,8 @@ fn negated(stack: &mut Stack) -> Result<(), Fault> {
 
 fn leaf(stack: &mut Stack, kind: LeafKind) -> Result<(), Fault> {
     let name = stack.text()?;
-    let leaves = before(kind, Vec::new(stack.alloc()))?;
+    let mut leaves = Seq::new(stack.alloc());
+    leaves.push(kind)?;
     stack.push(Value::Expression(Expression {
         expr: ExprText::Name(name),
         leaves,
@@ -148,33 +135,10 @@ fn leaf(stack: &mut Stack, kind: LeafKind) -> Result<(), Fault> {
 }
 
 // The expression on top with the parts under it, joined from the left.
-fn joined(stack: &mut Stack) -> Result<(), Fault> {
+fn whole(stack: &mut Stack) -> Result<(), Fault> {
     let alloc = stack.alloc();
-    let mut whole = stack.expression()?;
-    let mut parts = stack.parts()?;
-    while let Some(part) = parts.pop() {
-        whole = join(alloc, whole, part)?;
-    }
+    let first = stack.expression()?;
+    let parts = stack.parts()?;
+    let whole = joined(alloc, first, parts)?;
     stack.push(Value::Expression(whole))
-}
-
-fn join(alloc: Global, left: Expression, part: Part) -> Result<Expression, Fault> {
-    let Expression { expr, mut leaves } = left;
-    let Part { operator, right } = part;
-    let Expression {
-        expr: right,
-        leaves: mut more,
-    } = right;
-    leaves.append(&mut more)?;
-    let left = Held::new(alloc, expr)?;
-    let right = Held::new(alloc, right)?;
-    let expr = match operator {
-        Operator::Add => ExprText::Add(left, right),
-        Operator::Sub => ExprText::Sub(left, right),
-        Operator::Mul => ExprText::Mul(left, right),
-        Operator::Mod => ExprText::Mod(left, right),
-        Operator::Floor => ExprText::Floor(left, right),
-        Operator::Ceil => ExprText::Ceil(left, right),
-    };
-    Ok(Expression { expr, leaves })
 }

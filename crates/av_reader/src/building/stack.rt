@@ -1,5 +1,7 @@
 //! The stack of values, with one typed pop for each sort of value.
 
+ghost use Rattle.std.specs.Prelude.{◌≡◌, IfErr, IfOk};
+
 use super::value::{Carried, Expression, MapUse, Parameters, Part, Terminated, TypedValues, Value};
 use av_affine::{Seq, Text};
 use av_tree::{Attr, BodyArg, LayoutText, Named, Node, SizeText, Tree, TypeText};
@@ -14,12 +16,22 @@ pub(crate) enum Fault {
 }
 
 impl From<AllocError> for Fault {
+    ghost use Rattle.std.specs.Prelude.{◌≡◌};
+    ghost use Rattle.av_reader.specs.declared.building.stack.Fault.TheVariants.{NoMemory};
+
+    ghost from_gives = { λ _ fault. fault ≡ NoMemory };
+
     fn from(_fault: AllocError) -> Fault {
         Fault::NoMemory
     }
 }
 
 impl<T: Drop> From<AllocFailed<T>> for Fault {
+    ghost use Rattle.std.specs.Prelude.{◌≡◌};
+    ghost use Rattle.av_reader.specs.declared.building.stack.Fault.TheVariants.{NoMemory};
+
+    ghost from_gives = { λ _ fault. fault ≡ NoMemory };
+
     fn from(_fault: AllocFailed<T>) -> Fault {
         Fault::NoMemory
     }
@@ -47,8 +59,8 @@ pub(super) struct Stack {
     entry_lists: Vec<Vec<Named>>,
     parameters: Vec<Parameters>,
     expressions: Vec<Expression>,
-    expression_lists: Vec<Vec<Expression>>,
-    part_lists: Vec<Vec<Part>>,
+    expression_lists: Vec<Seq<Expression>>,
+    part_lists: Vec<Seq<Part>>,
     map_uses: Vec<MapUse>,
     carried: Vec<Carried>,
 }
@@ -184,11 +196,11 @@ impl Stack {
         pop(&mut self.expressions)
     }
 
-    pub(super) fn expressions(&mut self) -> Result<Vec<Expression>, Fault> {
+    pub(super) fn expressions(&mut self) -> Result<Seq<Expression>, Fault> {
         pop(&mut self.expression_lists)
     }
 
-    pub(super) fn parts(&mut self) -> Result<Vec<Part>, Fault> {
+    pub(super) fn parts(&mut self) -> Result<Seq<Part>, Fault> {
         pop(&mut self.part_lists)
     }
 
@@ -223,6 +235,9 @@ pub(super) fn before<T: Drop>(item: T, mut others: Vec<T>) -> Result<Vec<T>, Fau
 }
 
 /// A text of these bytes.
-pub(super) fn text_of(alloc: Global, bytes: &[u8]) -> Result<Text, Fault> {
+pub(super) fn text_of(alloc: Global, bytes: &[u8]) -> Result<Text, Fault>
+    ensures ok { IfOk result (λ text. text ≡ bytes.now) }
+    ensures err { IfErr result (λ fault. fault ≡ Fault.NoMemory) }
+{
     Ok(Seq::from_slice(alloc, bytes)?)
 }

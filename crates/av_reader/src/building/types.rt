@@ -1,5 +1,6 @@
 //! Rows of types.
 
+use super::numbers::decimal;
 use super::stack::{Fault, Stack, before, in_order};
 use super::value::Value;
 use av_affine::Text;
@@ -53,15 +54,4 @@ fn size_of(token: &Text) -> SizeText {
         [digits @ .., _] => SizeText::Fixed(decimal(digits)),
         [] => SizeText::Dynamic,
     }
-}
-
-/// The value of at most 38 decimal digits.
-pub(super) fn decimal(digits: &[u8]) -> u128 {
-    let mut value: u128 = 0;
-    for digit in digits {
-        value = value
-            .saturating_mul(10)
-            .saturating_add(u128::from(digit.saturating_sub(b'0')));
-    }
-    value
 }

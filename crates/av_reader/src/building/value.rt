@@ -1,6 +1,6 @@
 //! The values of rows and tokens.
 
-use av_affine::Text;
+use av_affine::{Seq, Text};
 use av_tree::{Attr, BodyArg, ExprText, LayoutText, Named, Node, SizeText, Tree, TypeText};
 
 /// A value on the stack. Lists hold their last item first.
@@ -23,8 +23,8 @@ pub(super) enum Value {
     Entries(Vec<Named>),
     Parameters(Parameters),
     Expression(Expression),
-    Expressions(Vec<Expression>),
-    Parts(Vec<Part>),
+    Expressions(Seq<Expression>),
+    Parts(Seq<Part>),
     MapUse(MapUse),
     Carried(Carried),
 }
@@ -61,7 +61,7 @@ pub(super) enum LeafKind {
 #[derive(Drop)]
 pub(super) struct Expression {
     pub(super) expr: ExprText,
-    pub(super) leaves: Vec<LeafKind>,
+    pub(super) leaves: Seq<LeafKind>,
 }
 
 /// What a sign or word of an expression does with the sides around it.
@@ -86,7 +86,7 @@ pub(super) struct Part {
 #[derive(Drop)]
 pub(super) struct MapUse {
     pub(super) map: Attr,
-    pub(super) operands: Vec<Text>,
+    pub(super) operands: Seq<Text>,
 }
 
 /// A carried argument and its first value.
@@ -99,6 +99,6 @@ pub(super) struct CarriedPair {
 /// Carried arguments from the last to the first, and their types from the first to the last.
 #[derive(Drop)]
 pub(super) struct Carried {
-    pub(super) pairs: Vec<CarriedPair>,
-    pub(super) types: Vec<TypeText>,
+    pub(super) pairs: Seq<CarriedPair>,
+    pub(super) types: Seq<TypeText>,
 }

@@ -6,10 +6,27 @@ use Rattle.av_tree.specs.declared.table.Symbol.TheVariants as symbol
 use Rattle.av_tree.specs.Table.{symbols_of, choice_of}
 use Rattle.av_derive.proofs.Steps.{stack-row, counted-row, counted-bound, next_off}
 use Rattle.av_derive.proofs.Refusals.{row-step, row-doomed}
+use Rattle.av_derive.proofs.Deep.{stack-room, earlier-row, flag-row, fresh-flag, earlier-more}
 use Rattle.av_derive.proofs.machine.Machine.expand.Goals as goal
 
 not-both : (b : Bool) → b ≡ true → b ≡ false → ⊥
 not-both b e f = absurd (cc)
+
+pub loop-symbol-init : goal.loop-symbol-init
+loop-symbol-init c =
+    let stands = c.requires in
+    record {
+      leads = stands.leads;
+      signs = λ under. stands.signs;
+      only = stands.only c.ahead-class.result;
+      told = stands.told;
+      doomed = λ over. absurd (cc);
+      limits = refl;
+      room = λ under. stands.room;
+      earlier = earlier-more c.args.at c.args.self.now.events.items stands.earlier;
+      flag = fresh-flag c.args.at c.args.self.now.events.items stands.earlier;
+      depth = refl;
+    }
 
 pub loop-symbol-preserved : goal.loop-symbol-preserved
 loop-symbol-preserved c =
@@ -33,6 +50,9 @@ loop-symbol-preserved c =
             (λ a b. not-both new.over over (e.within under a b)))
       ];
       limits = e.limits ∙ kept.limits;
+      room = λ under. rw (e.limits, e.brackets) (stack-room old.limits.brackets old.depth _ _ _ _ _ popped c.choose-rule.ensures.name pushed (e.room under) (kept.room (e.under under)));
+      earlier = rw e.events (earlier-row c.args.at c.choose-rule.result old.events.items kept.earlier);
+      flag = rw e.events (flag-row old.counted new.counted c.args.at c.choose-rule.result old.events.items e.flag kept.flag);
       depth = e.brackets ∙ kept.depth;
     }
 
@@ -48,6 +68,9 @@ returns-in-Sign c =
         told = rw off at kept.told;
         doomed = λ o. rw c.ahead-class.ensures at (kept.doomed o);
         no_name = grind (arith, c.in-Sign.is);
+        room = λ under. rw off at (kept.room under);
+        earlier = kept.earlier;
+        flag = kept.flag;
       };
       empty = λ e. absurd (cc);
       limits = kept.limits;
@@ -65,4 +88,7 @@ returns-clause-expanded c =
       told = rw same at kept.told;
       doomed = λ o. rw c.ahead-class.ensures at (kept.doomed o);
       no_name = refl;
+      room = λ under. rw same at (kept.room under);
+      earlier = kept.earlier;
+      flag = kept.flag;
     }
