@@ -4,3 +4,5 @@ pub mod Parts
 pub mod Words
 pub mod TypeParts
 pub mod TextsOf
+pub mod Firsts
+pub mod ExprParts

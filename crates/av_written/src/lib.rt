@@ -3,7 +3,7 @@
 //! A spelling that is read again has exactly the tokens that were spelled.
 #![tactic(auto)]
 
-ghost use Rattle.av_written.specs.WrittenLaws.{ClassesLaw, NoOtherTokensLaw, PartsLaw, SpellingsLaw, TokensLaw, TypesLaw};
+ghost use Rattle.av_written.specs.WrittenLaws.{ClassesLaw, MapUsesLaw, MapsLaw, NoOtherTokensLaw, PartsLaw, SetsLaw, SpellingsLaw, TokensLaw, TypesLaw};
 
 /// The tokens of what spaced pieces spell are their words.
 pub fn words_are_tokens()
@@ -33,4 +33,19 @@ pub fn spacing_goes_by_parts()
 /// The pieces of a type that was read are spaced before each text that begins apart.
 pub fn types_are_spaced()
     ensures { TypesLaw }
+{}
+
+/// So are those of a map.
+pub fn maps_are_spaced()
+    ensures { MapsLaw }
+{}
+
+/// And of a set.
+pub fn sets_are_spaced()
+    ensures { SetsLaw }
+{}
+
+/// And of a map with its operands, as subscripts and as a bound of a loop.
+pub fn uses_of_maps_are_spaced()
+    ensures { MapUsesLaw }
 {}
