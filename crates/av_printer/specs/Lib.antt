@@ -1,3 +1,4 @@
 pub mod Pieces
 pub mod Types
+pub mod Expressions
 pub mod Printing

@@ -4,9 +4,10 @@ use Rattle.std.proofs.lemmas.List.{append-nil, length-append, drop-drop, drop_at
 use Rattle.av_lex.specs.declared.token.Token.{Token}
 use Rattle.av_lex.specs.Spellings.{Longest, IsBlank, Separates}
 use Rattle.av_lex.specs.Tokens.{Lexed, start, separator, token}
+use Rattle.av_lex.proofs.OneReading.{one_list}
 use Rattle.av_printer.specs.Pieces.{Piece, blank, line, word, piece_text, margin, spelt}
 use Rattle.av_written.specs.Spacing.{tokens_of, SpacedBefore}
-use Rattle.av_written.specs.WrittenLaws.{TokensLaw}
+use Rattle.av_written.specs.WrittenLaws.{TokensLaw, NoOtherTokensLaw}
 use Rattle.av_written.proofs.Longest.{longest}
 
 -- what stands behind a text that stands at a place
@@ -43,7 +44,7 @@ gap b ts place rest (more {byte = byte} {rest = text} h g) e l =
     subst (Lexed b ts) (omega arith) (gap b ts (place + 1) rest g then here)
 
 -- ---- pieces
-spelt-first : (p : Piece) (ps : List Piece) (rest : List ℕ) → spelt (p ∷ ps) ++ rest ≡ piece_text p ++ (spelt ps ++ rest)
+pub spelt-first : (p : Piece) (ps : List Piece) (rest : List ℕ) → spelt (p ∷ ps) ++ rest ≡ piece_text p ++ (spelt ps ++ rest)
 unfolding spelt
 spelt-first p ps rest = append_assoc (piece_text p) (spelt ps) rest
 
@@ -88,3 +89,6 @@ pub tokens-law : TokensLaw
 tokens-law ps s =
     subst (Lexed (spelt ps) (tokens_of ps 0)) (omega arith)
     (pieces_read (spelt ps) [] 0 ps [] (sym (append-nil (spelt ps))) s start)
+
+pub no-other-law : NoOtherTokensLaw
+no-other-law ps s ts h = one_list (spelt ps) (tokens_of ps 0) ts (tokens-law ps s) h

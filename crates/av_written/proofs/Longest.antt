@@ -169,7 +169,7 @@ pub size_stops : (byte : ℕ) (rest : List ℕ) → in_class classes.Digit byte 
 unfolding goes_on_as_size
 size_stops byte rest h = rw h
 
-size_closes : (byte : ℕ) (rest : List ℕ) → in_class classes.Digit byte ≡ false → goes_on_as_size (byte ∷ rest) ≡ closes_size (byte ∷ rest)
+pub size_closes : (byte : ℕ) (rest : List ℕ) → in_class classes.Digit byte ≡ false → goes_on_as_size (byte ∷ rest) ≡ closes_size (byte ∷ rest)
 unfolding goes_on_as_size
 size_closes byte rest h = rw h
 

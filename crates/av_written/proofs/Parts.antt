@@ -205,7 +205,7 @@ free-scale text h rest = word_before kinds.ScalX text rest h refl
 pub sign_word : (s : Sign) → IsWord (kinds.Sign s) (sign_text s)
 sign_word s = record { spells = record { within = omega arith; spelled = (refl, λ i below. refl) }; short = tt }
 
-sign_before : (s : Sign) (rest : List ℕ) → lengthens_sign s rest ≡ false → SpacedBefore (sign s) rest
+pub sign_before : (s : Sign) (rest : List ℕ) → lengthens_sign s rest ≡ false → SpacedBefore (sign s) rest
 unfolding SpacedBefore spelt sign lengthens
 sign_before s rest h = (sign_word s, h, tt)
 

@@ -1,3 +1,4 @@
 pub mod Spacing
 pub mod ReadTypes
+pub mod ReadExpressions
 pub mod WrittenLaws

@@ -18,6 +18,13 @@ tokens_of (line depth ∷ pieces) place = tokens_of pieces (place + length (piec
 tokens_of (word kind text ∷ pieces) place =
     record { kind = kind; place = place; length = length text } ∷ tokens_of pieces (place + length text)
 
+-- the kinds and the texts of the words of pieces, in order
+unfoldable pub words_of : List Piece → List (Kind × List ℕ)
+words_of [] = []
+words_of (blank ∷ pieces) = words_of pieces
+words_of (line depth ∷ pieces) = words_of pieces
+words_of (word kind text ∷ pieces) = (kind, text) ∷ words_of pieces
+
 -- a text has a first byte, and it is one of these
 abbrev pub begins_with : (ℕ → Bool) → List ℕ → Bool
 begins_with is [] = false

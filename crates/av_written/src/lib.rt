@@ -3,11 +3,26 @@
 //! A spelling that is read again has exactly the tokens that were spelled.
 #![tactic(auto)]
 
-ghost use Rattle.av_written.specs.WrittenLaws.{TokensLaw, PartsLaw, TypesLaw};
+ghost use Rattle.av_written.specs.WrittenLaws.{ClassesLaw, MapUsesLaw, MapsLaw, NoOtherTokensLaw, PartsLaw, SetsLaw, SpellingsLaw, TokensLaw, TypesLaw};
 
 /// The tokens of what spaced pieces spell are their words.
 pub fn words_are_tokens()
     ensures { TokensLaw }
+{}
+
+/// What spaced pieces spell has no other tokens than their words.
+pub fn no_other_tokens()
+    ensures { NoOtherTokensLaw }
+{}
+
+/// Each token of what pieces spell is spelled with the text of its word.
+pub fn tokens_have_texts()
+    ensures { SpellingsLaw }
+{}
+
+/// Each token of what pieces spell has the class of its word.
+pub fn tokens_have_classes()
+    ensures { ClassesLaw }
 {}
 
 /// Pieces are spaced if their first part is before the second, and the second is.
@@ -18,4 +33,19 @@ pub fn spacing_goes_by_parts()
 /// The pieces of a type that was read are spaced before each text that begins apart.
 pub fn types_are_spaced()
     ensures { TypesLaw }
+{}
+
+/// So are those of a map.
+pub fn maps_are_spaced()
+    ensures { MapsLaw }
+{}
+
+/// And of a set.
+pub fn sets_are_spaced()
+    ensures { SetsLaw }
+{}
+
+/// And of a map with its operands, as subscripts and as a bound of a loop.
+pub fn uses_of_maps_are_spaced()
+    ensures { MapUsesLaw }
 {}
