@@ -1,2 +1,3 @@
 pub mod Digits
 pub mod Chains
+pub mod NodeParts

@@ -1,2 +1,4 @@
 pub mod Numbers
 pub mod Expressions
+pub mod Nodes
+pub mod Loops
