@@ -1,3 +1,5 @@
 pub mod Digits
 pub mod Chains
 pub mod NodeParts
+pub mod Exits
+pub mod Numbered

@@ -2,3 +2,4 @@ pub mod Numbers
 pub mod Expressions
 pub mod Nodes
 pub mod Loops
+pub mod Accesses
