@@ -3,3 +3,4 @@ pub mod Chains
 pub mod NodeParts
 pub mod Exits
 pub mod Numbered
+pub mod Faithful

@@ -3,3 +3,4 @@ pub mod Expressions
 pub mod Nodes
 pub mod Loops
 pub mod Accesses
+pub mod Meanings
