@@ -1,2 +1,6 @@
 pub mod Digits
 pub mod Chains
+pub mod NodeParts
+pub mod Exits
+pub mod Numbered
+pub mod Faithful

@@ -1,2 +1,6 @@
 pub mod Numbers
 pub mod Expressions
+pub mod Nodes
+pub mod Loops
+pub mod Accesses
+pub mod Meanings

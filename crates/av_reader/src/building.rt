@@ -9,6 +9,7 @@ mod attributes;
 mod expressions;
 mod files;
 mod joining;
+mod loops;
 mod numbers;
 mod regions;
 mod stack;

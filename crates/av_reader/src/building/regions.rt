@@ -1,7 +1,10 @@
 //! Rows of operations in regions, and of operations of the Arith dialect.
 
-use super::affine::push_property;
+ghost use Rattle.std.specs.Prelude.{◌≡◌};
+ghost use Rattle.av_reader.specs.Nodes.{plain};
+
 use super::files::{node_before, only_node, push_node, with_results};
+use super::loops::push_property;
 use super::stack::{Fault, Stack, before, in_order, text_of};
 use super::value::{Terminated, TypedValues, Value};
 use av_affine::{Duplicate, Seq, Text};
@@ -69,7 +72,9 @@ fn terminator(stack: &mut Stack, place: u32) -> Result<(), Fault> {
 }
 
 /// A node of a name and place, all else empty.
-pub(super) fn plain_node(alloc: Global, name: Text, place: u32) -> Node {
+pub(super) fn plain_node(alloc: Global, name: Text, place: u32) -> Node
+    ensures { result ≡ plain name place }
+{
     Node {
         name,
         place,

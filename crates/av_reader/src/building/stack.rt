@@ -1,6 +1,6 @@
 //! The stack of values, with one typed pop for each sort of value.
 
-ghost use Rattle.std.specs.Prelude.{◌≡◌, IfErr, IfOk};
+ghost use Rattle.std.specs.Prelude.{◌≡◌, reverse, IfErr, IfOk};
 
 use super::value::{Carried, Expression, MapUse, Parameters, Part, Terminated, TypedValues, Value};
 use av_affine::{Seq, Text};
@@ -223,7 +223,9 @@ fn pop<T>(values: &mut Vec<T>) -> Result<T, Fault> {
 }
 
 /// A list in the order of the text.
-pub(super) fn in_order<T: Drop>(mut items: Vec<T>) -> Seq<T> {
+pub(super) fn in_order<T: Drop>(mut items: Vec<T>) -> Seq<T>
+    ensures { result ≡ reverse items.items }
+{
     items.reverse();
     Seq::from_vec(items)
 }
