@@ -6,3 +6,4 @@ pub mod Opened
 pub mod OneStep
 pub mod Walks
 pub mod Works
+pub mod Starts

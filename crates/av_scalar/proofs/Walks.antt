@@ -53,7 +53,7 @@ module _ (perform : Perform) (types : List Ty) (op : Op) (env : Env) (memory : M
         → EndsAt (run_op perform types op env memory handed) budget (record { env = now; memory = g.memory; handed = handed_on g.handed handed }) last
     op_ends g last h now bound =
         let leads = leads_on (behind env op handed g) (rest operands) whole last left budget
-            (goes_on (work_of perform types op operands env memory) (behind env op handed) left g last h) (op_leads operands read left budget s) in
+        (goes_on (work_of perform types op operands env memory) (behind env op handed) left g last h) (op_leads operands read left budget s) in
         leads.ended (record { env = now; memory = g.memory; handed = handed_on g.handed handed }) last
         (ends_now (behind env op handed g) _ (ap (λ e. ends (record { env = e; memory = g.memory; handed = handed_on g.handed handed }) 0) (sym bound)) last)
 
@@ -152,8 +152,8 @@ module _ (body : Body) (step : ℕ) (n : ℕ) (z : ℤ) (carried : List Value) (
 wrap_more : (n : ℕ) → 0 < n → (q z : ℤ) (p s : ℕ) → z ≡ q *ℤ pos n +ℤ pos p → unsigned_abs (int_rem_euclid (z +ℤ pos s) (pos n)) ≡ (p + s) % n
 wrap_more n h (pos q) z p s e =
     ap (λ y. unsigned_abs (int_rem_euclid y (pos n))) (up q n p s z e) ∙ add-mul-mod_self_right (p + s) q n where
-  up : (q n p s : ℕ) (z : ℤ) → z ≡ pos q *ℤ pos n +ℤ pos p → z +ℤ pos s ≡ pos (p + s + q * n)
-  up q n p s z e = omega (arith, ints, e)
+      up : (q n p s : ℕ) (z : ℤ) → z ≡ pos q *ℤ pos n +ℤ pos p → z +ℤ pos s ≡ pos (p + s + q * n)
+      up q n p s z e = omega (arith, ints, e)
 wrap_more n h (negsuc q) z p s e = ap unsigned_abs (int_rem_euclid_is (z +ℤ pos s) (pos n) n (suc q) (p + s) h refl (down q n p s z e)) where
   down : (q n p s : ℕ) (z : ℤ) → z ≡ negsuc q *ℤ pos n +ℤ pos p → z +ℤ pos s +ℤ pos (suc q * n) ≡ pos (p + s)
   down q n p s z e = omega (arith, ints, e)

@@ -89,8 +89,9 @@ pub small_kept : (before now : List Buffer) → sizes_of now ≡ sizes_of before
 small_kept before now same h = λ k d l.
     let many : length now ≡ length before = sym (length-map now sizes) ∙ ap length same ∙ length-map before sizes in
     let at : sizes (get_or now k d) ≡ sizes (get_or before k d) =
-        sym (get_or-map sizes now k d (sizes d) l) ∙ ap (λ ls. get_or ls k (sizes d)) same ∙ get_or-map sizes before k d (sizes d) (subst (λ n. k < n) many l) in
+    sym (get_or-map sizes now k d (sizes d) l) ∙ ap (λ ls. get_or ls k (sizes d)) same ∙ get_or-map sizes before k d (sizes d) (subst (λ n. k < n) many l) in
     subst (λ s. product s ≤ 2 ^ 26) (sym at) (h k d (subst (λ n. k < n) many l))
+
 pub named_in : (count n : ℕ) (ids given : List ValueId) → given ≡ ids → n ≡ count → AreValues count ids → AreValues n given
 named_in count n ids given same many h = subst (λ m. AreValues m given) (sym many) (subst (AreValues count) (sym same) h)
 

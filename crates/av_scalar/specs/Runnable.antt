@@ -1,5 +1,5 @@
 -- The operations that an interpreter can run.
-use Rattle.std.specs.Prelude.{ℕ, ◌<◌, List}
+use Rattle.std.specs.Prelude.{ℕ, ◌<◌, List, length}
 use Rattle.std.specs.List.{All}
 use Rattle.av_affine.specs.declared.expression.AffMap.{AffMap}
 use Rattle.av_ir.specs.declared.module.ValueId.{ValueId}
@@ -7,6 +7,7 @@ use Rattle.av_ir.specs.declared.module.OpKind.{OpKind}
 use Rattle.av_ir.specs.declared.module.OpKind.TheVariants.{FuncReturn, ArithConstant, ArithBinary, AffineFor, AffineYield, AffineLoad, AffineStore}
 use Rattle.av_ir.specs.declared.module.Op.{Op, Op-F, every-Op}
 use Rattle.av_ir.specs.declared.module.Region.{Region, Region-F, every-Region}
+use Rattle.av_ir.specs.declared.module.Func.{Func}
 use Rattle.av_scalar.specs.Maps.{IsUsable}
 
 -- the maps of an operation can be evaluated
@@ -36,3 +37,7 @@ IsRunnable count = every-Op (OpIsRunnable count) (RegionIsRunnable count)
 
 unfoldable pub IsRunnableRegion : ℕ → Region → Type 0
 IsRunnableRegion count = every-Region (OpIsRunnable count) (RegionIsRunnable count)
+
+-- the same of all in a function
+abbrev pub IsRunnableFunc : Func → Type 0
+IsRunnableFunc f = IsRunnableRegion (length f.values) f.body

@@ -1,4 +1,4 @@
-//! The run of a module of scalar operations, with a budget of steps.
+//! The run of a module of scalar operations, with a budget of steps: exactly the run that is defined.
 #![tactic(auto)]
 
 mod bounds;
@@ -8,4 +8,7 @@ mod memory;
 mod names;
 mod operations;
 mod running;
+mod scalar;
 mod words;
+
+pub use scalar::run_scalar;

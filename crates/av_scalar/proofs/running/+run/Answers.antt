@@ -59,9 +59,11 @@ run_op-returns-clause-meets t c = λ handed.
 pub run_ops-run_op-requires : goal.run_ops-run_op-requires
 run_ops-run_op-requires t c = (
   search (rules, op_lemmas),
-  (one_as IsRunnable (length c.args.machine.now.names.words) (length c.loop-op.machine.names.words) c.args.ops.now c.loop-op.op-index c.op-item.result
-  c.loop-op-test.true c.op-item.is (as_many_words c.args.machine.now.names c.loop-op.machine.names c.loop-op.invariant.since) c.requires.runnable,
-  small_kept c.args.machine.now.memory.items c.loop-op.machine.memory.items c.loop-op.invariant.sizes c.requires.small),
+  (
+    one_as IsRunnable (length c.args.machine.now.names.words) (length c.loop-op.machine.names.words) c.args.ops.now c.loop-op.op-index c.op-item.result
+        c.loop-op-test.true c.op-item.is (as_many_words c.args.machine.now.names c.loop-op.machine.names c.loop-op.invariant.since) c.requires.runnable,
+    small_kept c.args.machine.now.memory.items c.loop-op.machine.memory.items c.loop-op.invariant.sizes c.requires.small,
+  ),
 )
 
 pub run_ops-returns-in_err-own-clause-meets : goal.run_ops-returns-in_err-own-clause-meets
@@ -98,10 +100,12 @@ run_region-bind-requires t c =
 pub run_region-run_ops-requires : goal.run_region-run_ops-requires
 run_region-run_ops-requires t c = (
   search (rules, region_lemmas),
-  (all_as IsRunnable (length c.args.machine.now.names.words) (length c.bind.new.self.words) (out-Region c.args.region.now).ops c.as_slice-2.result.now
-  c.as_slice-2.ensures (as_many_words c.args.machine.now.names c.bind.new.self c.in_ok-bind.ensures.since)
-  (ops_run (length c.args.machine.now.names.words) c.args.region.now c.requires.runnable),
-  c.requires.small),
+  (
+    all_as IsRunnable (length c.args.machine.now.names.words) (length c.bind.new.self.words) (out-Region c.args.region.now).ops c.as_slice-2.result.now
+        c.as_slice-2.ensures (as_many_words c.args.machine.now.names c.bind.new.self c.in_ok-bind.ensures.since)
+        (ops_run (length c.args.machine.now.names.words) c.args.region.now c.requires.runnable),
+    c.requires.small,
+  ),
 )
 
 pub run_region-returns-in_err-handed-clause-meets : goal.run_region-returns-in_err-handed-clause-meets
@@ -142,9 +146,11 @@ run_turns-returns-in_err-spend-clause-meets t c = λ first is.
 pub run_turns-run_body-requires : goal.run_turns-run_body-requires
 run_turns-run_body-requires t c = (
   search (rules, region_lemmas),
-  (all_as IsRunnableRegion (length c.args.machine.now.names.words) (length c.loop-turn.machine.names.words) c.args.regions.now c.args.regions.now refl
-  (ap (λ n. length n.words) c.loop-turn.invariant.names) c.requires.runnable,
-  small_kept c.args.machine.now.memory.items c.loop-turn.machine.memory.items c.loop-turn.invariant.sizes c.requires.small),
+  (
+    all_as IsRunnableRegion (length c.args.machine.now.names.words) (length c.loop-turn.machine.names.words) c.args.regions.now c.args.regions.now refl
+        (ap (λ n. length n.words) c.loop-turn.invariant.names) c.requires.runnable,
+    small_kept c.args.machine.now.memory.items c.loop-turn.machine.memory.items c.loop-turn.invariant.sizes c.requires.small,
+  ),
 )
 
 pub run_turns-returns-in_err-carried-clause-meets : goal.run_turns-returns-in_err-carried-clause-meets
@@ -153,7 +159,7 @@ run_turns-returns-in_err-carried-clause-meets t c = λ first is.
     let under = c.loop-turn.invariant.leads first is in
     let more : c.args.turns.now.count - c.loop-turn._turn ≡ suc (c.args.turns.now.count - (c.loop-turn._turn + 1)) = omega arith in
     let given : values c.as_slice-in-loop-turn.result.now ≡ index_value under.0 ∷ values c.loop-turn.carried =
-        turn_args c.loop-turn.at under.0 under.1 c.loop-turn.carried c.as_slice.result.now c.as_slice.ensures c.in_ok-args.args c.in_ok-args.ensures c.as_slice-in-loop-turn.result.now c.as_slice-in-loop-turn.ensures in
+    turn_args c.loop-turn.at under.0 under.1 c.loop-turn.carried c.as_slice.result.now c.as_slice.ensures c.in_ok-args.args c.in_ok-args.ensures c.as_slice-in-loop-turn.result.now c.as_slice-in-loop-turn.ensures in
     rw (p.1, p.2)
     (under.2.stopped c.in_err-carried.field-0.0
     (turn_stops (first_body (bodies_of perform c.args.types.now c.args.regions.now (env_of c.args.machine.now.names))) c.args.turns.now.step (c.args.turns.now.count - c.loop-turn._turn) under.0 (values c.loop-turn.carried) (memory_in c.args.standing.now c.loop-turn.machine)
@@ -173,18 +179,19 @@ run_turns-loop-turn-preserved t c =
       leads = λ first is.
           let under = c.loop-turn.invariant.leads first is in
           let given : values c.as_slice-in-loop-turn.result.now ≡ index_value under.0 ∷ values c.loop-turn.carried =
-              turn_args c.loop-turn.at under.0 under.1 c.loop-turn.carried c.as_slice.result.now c.as_slice.ensures c.in_ok-args.args c.in_ok-args.ensures c.as_slice-in-loop-turn.result.now c.as_slice-in-loop-turn.ensures in
-          (under.0 +ℤ pos step,
-          ap (λ p. (p + step) % 2 ^ 64) under.1 ∙ sym (pattern_grows under.0 step),
-          leads_on (loop_from body step m (under.0 +ℤ pos step) e.handed e.memory)
-          (loop_from body step n under.0 (values c.loop-turn.carried) (memory_in c.args.standing.now c.loop-turn.machine))
-          (loop_from body step c.args.turns.now.count first (values c.args.carried) (memory_in c.args.standing.now c.args.machine.now))
-          c.run_body.new.machine.left c.loop-turn.machine.left c.args.machine.now.left
-          (turn_goes_on body step n under.0 (values c.loop-turn.carried) (memory_in c.args.standing.now c.loop-turn.machine) m more c.loop-turn.machine.left (values c.as_slice-in-loop-turn.result.now) given
-          c.spend.new.left c.in_ok-spend.ensures.spent e c.run_body.new.machine.left
-          (subst (λ names. EndsAt (first_body (bodies_of perform c.args.types.now c.args.regions.now (env_of names)) (values c.as_slice-in-loop-turn.result.now) (memory_in c.args.standing.now c.loop-turn.machine)) c.spend.new.left e c.run_body.new.machine.left)
-          c.loop-turn.invariant.names c.in_ok-carried.ensures.meets))
-          under.2);
+          turn_args c.loop-turn.at under.0 under.1 c.loop-turn.carried c.as_slice.result.now c.as_slice.ensures c.in_ok-args.args c.in_ok-args.ensures c.as_slice-in-loop-turn.result.now c.as_slice-in-loop-turn.ensures in (
+            under.0 +ℤ pos step,
+            ap (λ p. (p + step) % 2 ^ 64) under.1 ∙ sym (pattern_grows under.0 step),
+            leads_on (loop_from body step m (under.0 +ℤ pos step) e.handed e.memory)
+                (loop_from body step n under.0 (values c.loop-turn.carried) (memory_in c.args.standing.now c.loop-turn.machine))
+                (loop_from body step c.args.turns.now.count first (values c.args.carried) (memory_in c.args.standing.now c.args.machine.now))
+                c.run_body.new.machine.left c.loop-turn.machine.left c.args.machine.now.left
+                (turn_goes_on body step n under.0 (values c.loop-turn.carried) (memory_in c.args.standing.now c.loop-turn.machine) m more c.loop-turn.machine.left (values c.as_slice-in-loop-turn.result.now) given
+                c.spend.new.left c.in_ok-spend.ensures.spent e c.run_body.new.machine.left
+                (subst (λ names. EndsAt (first_body (bodies_of perform c.args.types.now c.args.regions.now (env_of names)) (values c.as_slice-in-loop-turn.result.now) (memory_in c.args.standing.now c.loop-turn.machine)) c.spend.new.left e c.run_body.new.machine.left)
+                c.loop-turn.invariant.names c.in_ok-carried.ensures.meets))
+                under.2,
+          );
       names = c.in_ok-carried.ensures.names ∙ c.loop-turn.invariant.names;
       sizes = c.in_ok-carried.ensures.sizes ∙ c.loop-turn.invariant.sizes;
     }
@@ -217,9 +224,11 @@ work-returns-in_err-turns-in-AffineFor-clause-meets t c =
 pub work-run_turns-requires : goal.work-run_turns-requires
 work-run_turns-requires t c = (
   search (rules, op_lemmas),
-  (all_as IsRunnableRegion (length c.args.machine.now.names.words) (length c.args.machine.now.names.words) (out-Op c.args.op.now).regions c.as_slice-regions.result.now c.as_slice-regions.ensures refl
-  (regions_run (length c.args.machine.now.names.words) c.args.op.now c.requires.runnable),
-  c.requires.small),
+  (
+    all_as IsRunnableRegion (length c.args.machine.now.names.words) (length c.args.machine.now.names.words) (out-Op c.args.op.now).regions c.as_slice-regions.result.now c.as_slice-regions.ensures refl
+        (regions_run (length c.args.machine.now.names.words) c.args.op.now c.requires.runnable),
+    c.requires.small,
+  ),
 )
 
 pub work-returns-in_err-words-in-AffineFor-clause-meets : goal.work-returns-in_err-words-in-AffineFor-clause-meets
