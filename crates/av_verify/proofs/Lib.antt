@@ -1,1 +1,3 @@
-pub mod Names
+pub mod Behind
+pub mod Bindings
+pub mod TextVariants

@@ -1,7 +1,9 @@
 -- The rules that are asked of an operation, each with its code, and the first that fails.
-use Rattle.std.specs.Prelude.{◌≡◌, ℕ, Bool, true, false, List, [], ◌∷◌, Option, Some, None, Result, MatchResult}
+use Rattle.std.specs.Prelude.{◌≡◌, ℕ, Bool, not, List, Option, Some, None, find, Result, MatchResult}
+use Rattle.std.specs.Option.{option_map}
 use Rattle.av_verify.specs.declared.refusal.Code.{Code}
 use Rattle.av_verify.specs.declared.refusal.Code.TheVariants as code
+use Rattle.av_verify.specs.declared.refusal.Rule.{Rule}
 use Rattle.av_verify.specs.declared.refusal.VerifyRefusal.{VerifyRefusal}
 use Rattle.av_verify.specs.declared.refusal.VerifyRefusal.TheVariants.{Bad, NoMemory}
 
@@ -27,18 +29,13 @@ number_of_code code.Limit = 17
 number_of_code code.Place = 18
 number_of_code code.Size = 20
 
--- a rule: its code, and whether it holds
-pub record Rule : Type 0 where
-  pub code : Code
-  pub holds : Bool
-
+-- a rule of this code, and whether it holds
 abbrev pub asks : Code → Bool → Rule
 asks c holds = record { code = c; holds = holds }
 
 -- the code of the first rule that doesn't hold; each is asked only where those before it hold
 abbrev pub first_failing : List Rule → Option Code
-first_failing [] = None
-first_failing (rule ∷ rules) = elim rule.holds [ true ↦ first_failing rules | false ↦ Some rule.code ]
+first_failing rules = option_map (λ rule. rule.code) (find (λ rule. not rule.holds) rules)
 
 -- a refusal names the operation of this number and this code, if there is one; or memory lacks
 abbrev pub Refuses : ℕ → Option Code → VerifyRefusal → Type 0

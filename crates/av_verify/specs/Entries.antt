@@ -1,5 +1,5 @@
 -- Properties and attributes: one list of entries, in which the first of a name counts.
-use Rattle.std.specs.Prelude.{ℕ, ◌+◌, ◌^◌, ◌==◌, ℤ, pos, int_le, int_lt, unsigned_abs, Bool, true, false, ◌&&◌, ◌||◌, if◌then◌else◌, List, [], ◌∷◌, Option, Some, None, is_some, find, count_by, codes}
+use Rattle.std.specs.Prelude.{ℕ, ◌+◌, ◌^◌, ◌==◌, ℤ, pos, int_le, int_lt, unsigned_abs, Bool, true, false, ◌&&◌, ◌||◌, if◌then◌else◌, List, Option, Some, None, is_some, find, count_by, codes}
 use Rattle.std.specs.List.{list_all, list_any}
 use Rattle.std.specs.Option.{option_map, option_or, option_and_then}
 use Rattle.std.specs.Str.{bytes_eq}
@@ -12,8 +12,6 @@ use Rattle.av_tree.specs.declared.written.TypeText.{Scalar}
 use Rattle.av_ir.specs.declared.module.Marks.{Marks}
 use Rattle.av_verify.specs.declared.rows.Row.{Row}
 use Rattle.av_verify.specs.declared.rows.Row.TheVariants.{Loop}
-use Rattle.av_verify.specs.declared.refusal.Code.TheVariants.{Needed, Property}
-use Rattle.av_verify.specs.Codes.{Rule, asks}
 use Rattle.av_verify.specs.Rows.{mark_name, property_names}
 
 -- whether an entry has this name
@@ -73,10 +71,6 @@ has_good_entries row node =
     list_all (λ name. is_once name node) (property_names row)
     && list_all (is_known row) (out-Node node).properties && list_all (is_known row) (out-Node node).attrs
     && is_good_mark (is_once (mark_name row) node) (entry_of (mark_name row) node)
-
--- what is asked of entries, before the form of each property
-abbrev pub entry_rules : Row → Node → List Rule
-entry_rules row node = asks Needed (has_needed row node) ∷ asks Property (has_good_entries row node) ∷ []
 
 -- what the marks of a loop say, and of an access
 abbrev pub marked : Row → Option ℕ → Marks

@@ -3,12 +3,10 @@
 ghost use Rattle.std.specs.Prelude.{◌≡◌, ◌==◌, ◌≤◌, length, count_by, is_some};
 ghost use Rattle.std.specs.List.{list_all, list_any};
 ghost use Rattle.std.specs.Str.{bytes_eq};
-ghost use Rattle.av_verify.specs.Codes.{Asked, first_failing};
 ghost use Rattle.av_verify.specs.Rows.{mark_name, property_names};
 ghost use Rattle.std.specs.Option.{option_copied};
-ghost use Rattle.av_verify.specs.Entries.{entry_of, entry_rules, first_of, has_good_entries, has_needed, is_entry, is_good_mark, is_known, is_once, is_property, map_of, mark_number_of, marks_of, number_of};
+ghost use Rattle.av_verify.specs.Entries.{entry_of, first_of, has_good_entries, has_needed, is_entry, is_good_mark, is_known, is_once, is_property, map_of, mark_number_of, marks_of, number_of};
 
-use super::refusal::{Code, VerifyRefusal, ask};
 use super::rows::{Row, mark_of, properties_of};
 use av_affine::No;
 use av_ir::Marks;
@@ -73,15 +71,8 @@ pub(crate) fn mark_number(value: &Attr) -> Option<No>
     }
 }
 
-/// Asks an operation's entries: the needed ones are there, and each is known, in its form and alone.
-pub(crate) fn ask_entries(row: Row, node: &Node, number: No) -> Result<(), VerifyRefusal>
-    ensures { Asked number (first_failing (entry_rules row node.now)) result (λ u. Unit {0}) }
-{
-    ask(has_needed(row, node), number, Code::Needed)?;
-    ask(has_good_entries(row, node), number, Code::Property)
-}
-
-fn has_needed(row: Row, node: &Node) -> bool
+/// Whether all properties that an operation needs are there.
+pub(crate) fn has_needed(row: Row, node: &Node) -> bool
     ensures { result ≡ has_needed row node.now }
 {
     has_all(node, properties_of(row))
@@ -93,7 +84,8 @@ fn has_all(node: &Node, names: &[&[u8]]) -> bool
     names.iter().all(|name| entry(node, name).is_some())
 }
 
-fn has_good_entries(row: Row, node: &Node) -> bool
+/// Whether each property of an operation stands once, each entry is known, and the mark is good.
+pub(crate) fn has_good_entries(row: Row, node: &Node) -> bool
     ensures { result ≡ has_good_entries row node.now }
 {
     has_each_once(row, node)

@@ -74,7 +74,8 @@ fn is_plain_function(node: &Node) -> bool
         }
 }
 
-fn gives_nothing(ty: Option<&Attr>) -> bool
+/// Whether a value is a function type without results.
+pub(crate) fn gives_nothing(ty: Option<&Attr>) -> bool
     ensures { result ≡ gives_nothing (option_copied ty.entry) }
 {
     match ty {

@@ -13,6 +13,7 @@ mod form;
 mod loops;
 mod maps;
 mod module;
+mod names;
 mod operations;
 mod refusal;
 mod results;

@@ -1,14 +1,21 @@
 //! The module and its functions.
 
-use super::entries::{ask_entries, entry};
-use super::loops::ends_with;
+ghost use Rattle.std.specs.Prelude.{◌≡◌};
+ghost use Rattle.std.specs.List.{list_all};
+ghost use Rattle.std.specs.Option.{option_copied};
+ghost use Rattle.av_verify.specs.Modules.{are_within_limits, goes_on, has_function_entries, has_plain_region, is_symbol, is_symbol_byte, name_of, results_of};
+ghost use Rattle.av_verify.specs.Types.{is_within_limits};
+
+use super::entries::{entry, has_good_entries, has_needed};
+use super::form::gives_nothing;
+use super::loops::{are_new, end_with};
 use super::operations::{NO_MARKS, region};
-use super::refusal::{Code, VerifyRefusal, ask, bad};
-use super::results::has_results;
+use super::refusal::{Code, VerifyRefusal, ask_all, asks};
+use super::results::has_no_result;
 use super::rows::{Row, row_of};
-use super::scope::{Role, Scope};
+use super::scope::{Role, Scope, new_scope, take_number};
 use super::types::{is_type, is_within_limits};
-use av_affine::{No, Seq, Text};
+use av_affine::{No, Seq, duplicate_all};
 use av_ir::{Func, Module, Region};
 use av_shapes::Shape;
 use av_tree::{Attr, BodyArg, Node, Tree, TypeText};
@@ -34,23 +41,25 @@ const MAX_SIZE: u64 = 0x8_0000;
 ///
 /// A rule fails, at the operation and with the code that the refusal names; or memory lacks.
 pub fn verify(alloc: Global, tree: &Tree, mode: &Mode) -> Result<Module, VerifyRefusal> {
-    let node = only_function(&tree.root)?;
-    ask(is_within_size(tree, mode), 0, Code::Size)?;
-    let func = function(alloc, node, mode)?;
+    ask_module(tree, mode)?;
+    let mut scope = new_scope(alloc);
+    // The module's own number.
+    let _module = take_number(&mut scope.owners, 0)?;
     let mut funcs = Seq::new(alloc);
-    funcs.push(func)?;
-    // The module and the operations of its one function.
-    let owners = vec![in alloc; 0; operations_in(&tree.root) as usize]?;
+    if let Some(node) = only_function(&tree.root) {
+        funcs.push(function(&mut scope, node, mode)?)?;
+    }
     Ok(Module {
         funcs,
-        owners: Seq::from_vec(owners),
+        owners: scope.owners,
     })
 }
 
+// The regions that may be open within a function's.
 fn most_regions(mode: &Mode) -> u32 {
     match mode {
-        Mode::Scalar(_) => 32,
-        Mode::Vector | Mode::Run => 40,
+        Mode::Scalar(_) => 30,
+        Mode::Vector | Mode::Run => 38,
     }
 }
 
@@ -74,75 +83,104 @@ fn operations_in(node: &Node) -> u64 {
     sum
 }
 
-// The function of the module, whose name and attributes are dropped.
-fn only_function(root: &Node) -> Result<&Node, VerifyRefusal> {
-    ask(
-        matches!(row_of(root.name.as_slice()), Some(Row::Module)),
-        0,
-        Code::Name,
-    )?;
-    ask(root.operands.is_empty(), 0, Code::Operands)?;
-    ask(has_results(root, 0), 0, Code::Results)?;
-    ask(
-        root.in_types.is_empty() && root.out_types.is_empty(),
-        0,
-        Code::Types,
-    )?;
+// The name and the attributes of the module are dropped.
+fn ask_module(tree: &Tree, mode: &Mode) -> Result<(), VerifyRefusal> {
+    let root = &tree.root;
+    let rules = [
+        asks(
+            Code::Name,
+            matches!(row_of(root.name.as_slice()), Some(Row::Module)),
+        ),
+        asks(Code::Operands, root.operands.as_slice().is_empty()),
+        asks(Code::Results, has_no_result(root)),
+        asks(
+            Code::Types,
+            root.in_types.as_slice().is_empty() && root.out_types.as_slice().is_empty(),
+        ),
+        asks(Code::Regions, has_plain_region(root)),
+        // More functions aren't taken yet.
+        asks(Code::Place, only_function(root).is_some()),
+        asks(Code::Size, is_within_size(tree, mode)),
+    ];
+    ask_all(&rules, 0)
+}
+
+// The one operation in the module.
+fn only_function(root: &Node) -> Option<&Node> {
     match root.regions.as_slice() {
-        [body] => {
-            ask(body.args.is_empty(), 0, Code::Regions)?;
-            match body.nodes.as_slice() {
-                [node] => Ok(node),
-                _ => Err(bad(0, Code::Place)),
-            }
-        }
-        _ => Err(bad(0, Code::Regions)),
+        [body] => match body.nodes.as_slice() {
+            [node] => Some(node),
+            _ => None,
+        },
+        _ => None,
     }
 }
 
-fn function(alloc: Global, node: &Node, mode: &Mode) -> Result<Func, VerifyRefusal> {
-    let mut scope = Scope::new(alloc, most_regions(mode));
-    let number = scope.take_number();
-    let name = function_header(&mut scope, node, number)?;
-    scope.enter();
-    let body = function_region(&mut scope, node, number)?;
+// Whether an operation has one region, without arguments.
+fn has_plain_region(node: &Node) -> bool
+    ensures { result ≡ has_plain_region node.now }
+{
+    match node.regions.as_slice() {
+        [body] => body.args.as_slice().is_empty(),
+        _ => false,
+    }
+}
+
+fn function(scope: &mut Scope, node: &Node, mode: &Mode) -> Result<Func, VerifyRefusal> {
+    let number = take_number(&mut scope.owners, 0)?;
+    let new = are_new(scope.alloc, &scope.names, node.regions.as_slice())?;
+    ask_function(node, new, number)?;
+    let body = function_region(scope, node, most_regions(mode))?;
     Ok(Func {
-        name,
+        name: Seq::from_slice(scope.alloc, name_of(node))?,
         number,
-        values: scope.into_values(),
-        results: Seq::new(alloc),
+        values: duplicate_all(scope.alloc, scope.values.as_slice())?,
+        results: Seq::new(scope.alloc),
         body,
         marks: NO_MARKS,
     })
 }
 
-fn function_region(scope: &mut Scope, node: &Node, number: No) -> Result<Region, VerifyRefusal> {
+fn function_region(scope: &mut Scope, node: &Node, room: u32) -> Result<Region, VerifyRefusal> {
     match node.regions.as_slice() {
-        [body] => region(scope, body, Role::Plain, number),
-        _ => Err(bad(number, Code::Regions)),
+        [body] => region(scope, body, Role::Plain, room),
+        _ => Ok(Region {
+            args: Seq::new(scope.alloc),
+            ops: Seq::new(scope.alloc),
+        }),
     }
 }
 
-// The name of a function whose arguments are declared, after all rules on the function itself.
-fn function_header(scope: &mut Scope, node: &Node, number: No) -> Result<Text, VerifyRefusal> {
-    ask(
-        matches!(row_of(node.name.as_slice()), Some(Row::Function)),
-        number,
-        Code::Name,
-    )?;
-    ask(node.operands.is_empty(), number, Code::Operands)?;
-    ask(has_results(node, 0), number, Code::Results)?;
-    scope.declare(node.regions.as_slice(), number)?;
-    ask(has_function_types(node), number, Code::Types)?;
-    ask_entries(Row::Function, node, number)?;
-    let name = symbol_in(node).ok_or(bad(number, Code::Property))?;
-    let results = results_in(node).ok_or(bad(number, Code::Property))?;
-    ask(ends_with(node, b"func.return"), number, Code::Terminator)?;
-    ask(node.regions.len() == 1, number, Code::Regions)?;
-    ask(are_within_limits(node), number, Code::Limit)?;
-    // Functions give no results yet.
-    ask(results.is_empty(), number, Code::Place)?;
-    Ok(Seq::from_slice(scope.alloc(), name)?)
+fn ask_function(node: &Node, new: bool, number: No) -> Result<(), VerifyRefusal> {
+    let rules = [
+        asks(
+            Code::Name,
+            matches!(row_of(node.name.as_slice()), Some(Row::Function)),
+        ),
+        asks(Code::Operands, node.operands.as_slice().is_empty()),
+        asks(Code::Results, has_no_result(node)),
+        asks(Code::New, new),
+        asks(Code::Types, has_function_types(node)),
+        asks(Code::Needed, has_needed(Row::Function, node)),
+        asks(Code::Property, has_function_entries(node)),
+        asks(
+            Code::Terminator,
+            end_with(node.regions.as_slice(), b"func.return"),
+        ),
+        asks(Code::Regions, node.regions.len() == 1),
+        asks(Code::Limit, are_within_limits(node)),
+        // Functions give no results yet.
+        asks(Code::Place, gives_nothing(entry(node, b"function_type"))),
+    ];
+    ask_all(&rules, number)
+}
+
+fn has_function_entries(node: &Node) -> bool
+    ensures { result ≡ has_function_entries node.now }
+{
+    has_good_entries(Row::Function, node)
+        && is_symbol(name_of(node))
+        && results_of(entry(node, b"function_type")).is_some()
 }
 
 fn has_function_types(node: &Node) -> bool {
@@ -171,56 +209,69 @@ fn are_types_of(types: &[TypeText], args: &[BodyArg]) -> bool {
     types.len() == args.len()
 }
 
-fn are_within_limits(node: &Node) -> bool {
-    for body in node.regions.as_slice() {
-        for arg in body.args.as_slice() {
-            if !is_within_limits(&arg.ty) {
-                return false;
-            }
-        }
-    }
-    true
+// Whether the types of all arguments are within their limits.
+fn are_within_limits(node: &Node) -> bool
+    ensures { result ≡ are_within_limits node.now }
+{
+    node.regions
+        .as_slice()
+        .iter()
+        .all(|body| are_arguments_within(body.args.as_slice()))
 }
 
-// The name of a function, where it is spelled as a symbol without its `@`.
-fn symbol_in(node: &Node) -> Option<&[u8]> {
+fn are_arguments_within(args: &[BodyArg]) -> bool
+    ensures { result ≡ list_all (λ arg. is_within_limits arg.ty) args.now }
+{
+    args.iter().all(|arg| is_within_limits(&arg.ty))
+}
+
+// The name of a function, without its `@`; no name where it has none.
+fn name_of(node: &Node) -> &[u8]
+    ensures { result.now ≡ name_of node.now }
+{
     match entry(node, b"sym_name") {
-        Some(Attr::Quoted(name)) => {
-            if is_symbol(name.as_slice()) {
-                Some(name.as_slice())
-            } else {
-                None
-            }
-        }
-        _ => None,
+        Some(Attr::Quoted(name)) => name.as_slice(),
+        _ => &[],
     }
 }
 
 // Digits alone, or a letter or one of `$._-` followed by any of these and digits.
-fn is_symbol(name: &[u8]) -> bool {
-    let [first, rest @ ..] = name else {
-        return false;
-    };
-    for b in rest {
-        let fits = if first.is_ascii_digit() {
-            b.is_ascii_digit()
-        } else {
-            is_symbol_byte(*b)
-        };
-        if !fits {
-            return false;
-        }
+fn is_symbol(name: &[u8]) -> bool
+    ensures { result ≡ is_symbol name.now }
+{
+    match name {
+        [] => false,
+        [first, rest @ ..] => is_symbol_byte(*first) && go_on(*first, rest),
     }
-    is_symbol_byte(*first)
 }
 
-fn is_symbol_byte(b: u8) -> bool {
-    b.is_ascii_alphanumeric() || matches!(b, b'$' | b'.' | b'_' | b'-')
+fn go_on(first: u8, rest: &[u8]) -> bool
+    ensures { result ≡ list_all (goes_on first) rest.now }
+{
+    rest.iter().all(|b| goes_on(first, *b))
 }
 
-// The types of a function's results.
-fn results_in(node: &Node) -> Option<&[TypeText]> {
-    match entry(node, b"function_type") {
+fn goes_on(first: u8, b: u8) -> bool
+    ensures { result ≡ goes_on first b }
+{
+    if first.is_ascii_digit() {
+        b.is_ascii_digit()
+    } else {
+        is_symbol_byte(b)
+    }
+}
+
+fn is_symbol_byte(b: u8) -> bool
+    ensures { result ≡ is_symbol_byte b }
+{
+    b.is_ascii_alphanumeric() || b == b'$' || b == b'.' || b == b'_' || b == b'-'
+}
+
+// The types of the results of a function type.
+fn results_of(ty: Option<&Attr>) -> Option<&[TypeText]>
+    ensures { option_copied result ≡ results_of (option_copied ty.entry) }
+{
+    match ty {
         Some(Attr::Type(TypeText::Func { results, .. })) => Some(results.as_slice()),
         _ => None,
     }

@@ -1,5 +1,5 @@
 ghost use Rattle.std.specs.Prelude.{◌≡◌, true, false, MatchResult};
-ghost use Rattle.av_verify.specs.Codes.{number_of_code};
+ghost use Rattle.av_verify.specs.Codes.{Asked, asks, first_failing, number_of_code};
 
 use av_affine::No;
 use std::alloc::{AllocError, AllocFailed};
@@ -17,12 +17,22 @@ pub enum VerifyRefusal {
 }
 
 impl From<AllocError> for VerifyRefusal {
+    ghost use Rattle.std.specs.Prelude.{◌≡◌};
+    ghost use Rattle.av_verify.specs.declared.refusal.VerifyRefusal.TheVariants.{NoMemory};
+
+    ghost from_gives = { λ _ refusal. refusal ≡ NoMemory };
+
     fn from(_fault: AllocError) -> VerifyRefusal {
         VerifyRefusal::NoMemory
     }
 }
 
 impl<T: Drop> From<AllocFailed<T>> for VerifyRefusal {
+    ghost use Rattle.std.specs.Prelude.{◌≡◌};
+    ghost use Rattle.av_verify.specs.declared.refusal.VerifyRefusal.TheVariants.{NoMemory};
+
+    ghost from_gives = { λ _ refusal. refusal ≡ NoMemory };
+
     fn from(_fault: AllocFailed<T>) -> VerifyRefusal {
         VerifyRefusal::NoMemory
     }
@@ -73,6 +83,37 @@ pub(crate) fn bad(number: No, code: Code) -> VerifyRefusal
     ensures { result ≡ VerifyRefusal.Bad number (number_of_code code) }
 {
     VerifyRefusal::Bad(number, code as u8)
+}
+
+/// A rule that is asked of an operation, and whether it holds.
+#[derive(Clone, Copy)]
+pub(crate) struct Rule {
+    pub(crate) code: Code,
+    pub(crate) holds: bool,
+}
+
+/// A rule of this code.
+pub(crate) fn asks(code: Code, holds: bool) -> Rule
+    ensures { result ≡ asks code holds }
+{
+    Rule { code, holds }
+}
+
+/// Asks the rules of an operation, in the order of their codes.
+pub(crate) fn ask_all(rules: &[Rule], number: No) -> Result<(), VerifyRefusal>
+    ensures { Asked number (first_failing rules.now) result (λ u. Unit {0}) }
+{
+    match first_failing(rules) {
+        Some(code) => Err(bad(number, code)),
+        None => Ok(()),
+    }
+}
+
+fn first_failing(rules: &[Rule]) -> Option<Code>
+    ensures { result ≡ first_failing rules.now }
+{
+    let failing = rules.iter().find(|rule| !rule.holds)?;
+    Some(failing.code)
 }
 
 /// Asks a rule at an operation.

@@ -1,7 +1,7 @@
 //! The operations that are known, and the properties of each.
 
 ghost use Rattle.std.specs.Prelude.{◌≡◌, map};
-ghost use Rattle.av_verify.specs.Rows.{mark_name, property_names};
+ghost use Rattle.av_verify.specs.Rows.{mark_name, property_names, row_of};
 
 use av_bits::BinOp;
 
@@ -20,18 +20,29 @@ pub(crate) enum Row {
 }
 
 /// The operation of this name, if there is one.
-pub(crate) fn row_of(name: &[u8]) -> Option<Row> {
-    match name {
-        b"builtin.module" => Some(Row::Module),
-        b"func.func" => Some(Row::Function),
-        b"func.return" => Some(Row::Return),
-        b"arith.constant" => Some(Row::Constant),
-        b"arith.addi" => Some(Row::Binary(BinOp::Addi)),
-        b"affine.for" => Some(Row::Loop),
-        b"affine.yield" => Some(Row::Yield),
-        b"affine.load" => Some(Row::Load),
-        b"affine.store" => Some(Row::Store),
-        _ => None,
+pub(crate) fn row_of(name: &[u8]) -> Option<Row>
+    ensures { result ≡ row_of name.now }
+{
+    if name == b"builtin.module".as_slice() {
+        Some(Row::Module)
+    } else if name == b"func.func".as_slice() {
+        Some(Row::Function)
+    } else if name == b"func.return".as_slice() {
+        Some(Row::Return)
+    } else if name == b"arith.constant".as_slice() {
+        Some(Row::Constant)
+    } else if name == b"arith.addi".as_slice() {
+        Some(Row::Binary(BinOp::Addi))
+    } else if name == b"affine.for".as_slice() {
+        Some(Row::Loop)
+    } else if name == b"affine.yield".as_slice() {
+        Some(Row::Yield)
+    } else if name == b"affine.load".as_slice() {
+        Some(Row::Load)
+    } else if name == b"affine.store".as_slice() {
+        Some(Row::Store)
+    } else {
+        None
     }
 }
 

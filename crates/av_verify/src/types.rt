@@ -190,7 +190,8 @@ fn names_elem(name: &[u8], elem: Elem) -> bool
     }
 }
 
-fn is_elem(elem: Elem, other: Elem) -> bool
+/// Whether two element types are the same.
+pub(crate) fn is_elem(elem: Elem, other: Elem) -> bool
     ensures { result ≡ is_elem elem other }
 {
     match elem {

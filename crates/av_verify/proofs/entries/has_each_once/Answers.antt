@@ -1,7 +1,7 @@
 use Rattle.std.proofs.Common.{◌≡◌, ◌∙◌, ap}
 use Rattle.std.specs.List.{list_all}
 use Rattle.av_verify.specs.Entries.{is_once}
-use Rattle.av_verify.proofs.Names.{all_names}
+use Rattle.av_verify.proofs.Behind.{all_names}
 use Rattle.av_verify.proofs.entries.has_each_once.Goals as goal
 
 pub returns : goal.returns

@@ -2,7 +2,7 @@ use Rattle.std.proofs.Common.{◌≡◌, ◌∙◌, ap}
 use Rattle.std.specs.Prelude.{is_some}
 use Rattle.std.specs.List.{list_all}
 use Rattle.av_verify.specs.Entries.{entry_of}
-use Rattle.av_verify.proofs.Names.{all_names}
+use Rattle.av_verify.proofs.Behind.{all_names}
 use Rattle.av_verify.proofs.entries.has_needed.Goals as goal
 
 pub returns : goal.returns

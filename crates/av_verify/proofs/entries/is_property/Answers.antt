@@ -1,7 +1,7 @@
 use Rattle.std.proofs.Common.{◌≡◌, ◌∙◌, ap}
 use Rattle.std.specs.List.{list_any}
 use Rattle.std.specs.Str.{bytes_eq}
-use Rattle.av_verify.proofs.Names.{any_names}
+use Rattle.av_verify.proofs.Behind.{any_names}
 use Rattle.av_verify.proofs.entries.is_property.Goals as goal
 
 pub returns : goal.returns
