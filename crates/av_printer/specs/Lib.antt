@@ -1,4 +1,5 @@
 pub mod Pieces
 pub mod Types
 pub mod Expressions
+pub mod Attributes
 pub mod Printing
