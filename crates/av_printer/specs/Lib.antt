@@ -2,4 +2,5 @@ pub mod Pieces
 pub mod Types
 pub mod Expressions
 pub mod Attributes
+pub mod Dictionaries
 pub mod Printing

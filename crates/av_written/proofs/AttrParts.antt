@@ -1,5 +1,5 @@
 -- The pieces of attributes that were read are spaced.
-use Rattle.std.proofs.Common.{◌≡◌, ℕ, ℤ, ◌≤◌, ◌==◌, Bool, true, false, length, arith, List, [], ◌∷◌, ◌++◌, map, Option, Some, None, refl, sym, ◌∙◌, ap, subst, codes}
+use Rattle.std.proofs.Common.{◌≡◌, ℕ, ℤ, ◌≤◌, ◌==◌, Bool, true, false, cond, length, arith, List, [], ◌∷◌, ◌++◌, map, Option, Some, None, refl, sym, ◌∙◌, ap, subst, codes}
 use Rattle.std.specs.List.{All}
 use Rattle.av_lex.specs.declared.token.Kind.TheVariants as kinds
 use Rattle.av_lex.specs.declared.token.Sign.TheVariants.{OpenAngle, CloseAngle, OpenSquare, CloseSquare, OpenCurly, CloseCurly, Arrow, Colon, Equal}
@@ -15,11 +15,12 @@ use Rattle.av_printer.specs.Pieces.{Piece, spelt, token, sign, plain, colon, spa
 use Rattle.av_printer.specs.Types.{type_pieces, one_or_several, layout_behind, size_x, dim_x}
 use Rattle.av_printer.specs.Expressions as e
 use Rattle.av_printer.specs.Attributes as a
+use Rattle.av_printer.specs.Dictionaries as d
 use Rattle.av_written.specs.Spacing.{goes_on_as_size, IsWord}
 use Rattle.av_written.specs.ReadTypes.{IsReadType, scalar, mem_ref, vector, func}
 use Rattle.av_written.specs.ReadExpressions.{IsShortInteger, IsReadMap, IsReadSet}
 use Rattle.av_written.specs.ReadAttributes.{IsReadElement, number_element, truth_element, list_element, AreReadElements, no_elements, one_element_more, IsReadAttr, number, truth, quoted, symbol, typed, mapped, bounded, alias, hashed, list, dictionary, array, dense, lone, AreReadAttrs, no_attrs, one_attr_more, AreReadEntries, no_entries, one_entry_more}
-use Rattle.av_written.specs.WrittenLaws.{AttributesLaw}
+use Rattle.av_written.specs.WrittenLaws.{AttributesLaw, DictionariesLaw}
 use Rattle.av_written.proofs.Parts.{Free, Sound, Divides, Keeps, Opens, AllOf, Tame, free-sound, sound-append, sound-free, sound-divides, sound-of_free, divides-append, keeps-divides, sound-none, keeps-none, opens-append, opens-none, free-open_angle, divides-open_angle, sound-close_angle, divides-close_angle, free-colon, divides-colon, free-spaced, free-in_curly, sound-in_square, sound-word, sound-sign, sound-token, all_mapped, sound-commas, opens-commas}
 use Rattle.av_written.proofs.Words.{is_word, memref_word, vector_word}
 use Rattle.av_written.proofs.Firsts.{Shuts, shuts-append, opens-shuts, shuts-word, shuts-token, shuts-in_round, shuts-spaced, divides-spaced}
@@ -329,4 +330,26 @@ mutual
   sound-entries _ (one_entry_more n ns w h k) = (sound-entry n w (item-attr (out-Named n).value h), sound-entries ns k)
 
 pub attributes-law : AttributesLaw
-attributes-law = (λ x h. (item-attr x h).sound, λ ns h. sound-commas (map a.entry_pieces ns) (sound-entries ns h))
+attributes-law x h = (item-attr x h).sound
+
+-- ---- dictionaries
+read-chosen : (b : Bool) (ns ms : List Named) → AreReadEntries ns → AreReadEntries ms → AreReadEntries (cond b ns ms)
+read-chosen true ns ms h k = h
+read-chosen false ns ms h k = k
+
+read-inserted : (n : Named) → IsWord kinds.Word (out-Named n).name → IsReadAttr (out-Named n).value
+    → (ns : List Named) → AreReadEntries ns → AreReadEntries (d.inserted n ns)
+unfolding d.inserted
+read-inserted n w h _ no_entries = one_entry_more n [] w h no_entries
+read-inserted n w h _ (one_entry_more m ms v g k) =
+    read-chosen (d.stands_before (out-Named n).name (out-Named m).name) (n ∷ m ∷ ms) (m ∷ d.inserted n ms)
+    (one_entry_more n (m ∷ ms) w h (one_entry_more m ms v g k))
+    (one_entry_more m (d.inserted n ms) v g (read-inserted n w h ms k))
+
+read-ordered : (ordered ns : List Named) → AreReadEntries ordered → AreReadEntries ns → AreReadEntries (d.ordered_onto ordered ns)
+unfolding d.ordered_onto
+read-ordered ordered _ h no_entries = h
+read-ordered ordered _ h (one_entry_more n ns w g k) = read-ordered (d.inserted n ordered) ns (read-inserted n w g ordered h) k
+
+pub dictionaries-law : DictionariesLaw
+dictionaries-law ns h = sound-commas (map a.entry_pieces (d.in_order ns)) (sound-entries (d.in_order ns) (read-ordered [] ns no_entries h))

@@ -4,13 +4,14 @@ use Rattle.av_lex.specs.declared.token.Token.{Token}
 use Rattle.av_lex.specs.Tokens.{Tokens}
 use Rattle.av_derive.specs.ClassOf.{class_of, classes_of, spelling_of}
 use Rattle.av_tree.specs.declared.written.TypeText.{TypeText}
-use Rattle.av_printer.specs.Pieces.{Piece, spelt, commas}
+use Rattle.av_printer.specs.Pieces.{Piece, spelt}
 use Rattle.av_tree.specs.declared.written.MapText.{MapText}
 use Rattle.av_tree.specs.declared.written.SetText.{SetText}
 use Rattle.av_printer.specs.Expressions.{map_pieces, set_pieces, map_use, subscripts, bound}
 use Rattle.av_tree.specs.declared.attribute.Attr.{Attr}
 use Rattle.av_tree.specs.declared.attribute.Named.{Named}
-use Rattle.av_printer.specs.Attributes.{attribute, entry_pieces}
+use Rattle.av_printer.specs.Attributes.{attribute}
+use Rattle.av_printer.specs.Dictionaries.{dictionary}
 use Rattle.av_printer.specs.Types.{type_pieces}
 use Rattle.av_written.specs.Spacing.{begins_apart, SpacedBefore, Spaced, tokens_of, words_of}
 use Rattle.std.specs.List.{All}
@@ -60,9 +61,11 @@ MapUsesLaw = (m : MapText) (operands : List (List ℕ)) → IsReadMap m → All 
     → SpacedBefore (map_use m operands) rest × SpacedBefore (subscripts m operands) rest
     × ((lower : Bool) → SpacedBefore (bound lower m operands) rest)
 
--- and of an attribute, and of entries of a dictionary
+-- and of an attribute
 abbrev pub AttributesLaw : Type 0
-AttributesLaw =
-    ((a : Attr) → IsReadAttr a → (rest : List ℕ) → begins_apart rest ≡ true → SpacedBefore (attribute a) rest)
-    × ((entries : List Named) → AreReadEntries entries → (rest : List ℕ) → begins_apart rest ≡ true
-    → SpacedBefore (commas (map entry_pieces entries)) rest)
+AttributesLaw = (a : Attr) → IsReadAttr a → (rest : List ℕ) → begins_apart rest ≡ true → SpacedBefore (attribute a) rest
+
+-- and of the entries of a dictionary
+abbrev pub DictionariesLaw : Type 0
+DictionariesLaw = (entries : List Named) → AreReadEntries entries → (rest : List ℕ) → begins_apart rest ≡ true
+    → SpacedBefore (dictionary entries) rest
