@@ -1,4 +1,6 @@
 pub mod Pieces
 pub mod Types
 pub mod Expressions
+pub mod Attributes
+pub mod Dictionaries
 pub mod Printing

@@ -41,11 +41,11 @@ symbol_word : IsWord kinds.Word (codes "symbol")
 unfolding in_class
 symbol_word = is_word (codes "symbol") refl
 
-map_word : IsWord kinds.Word (codes "affine_map")
+pub map_word : IsWord kinds.Word (codes "affine_map")
 unfolding in_class
 map_word = is_word (codes "affine_map") refl
 
-set_word : IsWord kinds.Word (codes "affine_set")
+pub set_word : IsWord kinds.Word (codes "affine_set")
 unfolding in_class
 set_word = is_word (codes "affine_set") refl
 
@@ -68,7 +68,7 @@ free-star : Free (sign Star)
 unfolding lengthens_sign
 free-star = free-sign Star (λ rest. refl)
 
-free-colon_alone : Free (sign Colon)
+pub free-colon_alone : Free (sign Colon)
 unfolding lengthens_sign
 free-colon_alone = free-sign Colon (λ rest. refl)
 
@@ -100,13 +100,13 @@ unfolding space
 free-spaced_minus = free-append space (sign Minus ++ space) free-space (minus_before space free-space no_angle-space)
 
 -- ---- numbers
-sound-integer : (z : ℤ) → IsShortInteger z → Sound (e.number z)
+pub sound-integer : (z : ℤ) → IsShortInteger z → Sound (e.number z)
 unfolding e.number
 sound-integer (pos n) h = sound-number _ (number_word n h)
 sound-integer (negsuc n) h =
     minus_sound (token kinds.Number (decimal (suc n))) (sound-number _ (number_word (suc n) h)) (no_angle-number _ (number_word (suc n) h))
 
-opens-integer : (z : ℤ) → IsShortInteger z → Opens (e.number z)
+pub opens-integer : (z : ℤ) → IsShortInteger z → Opens (e.number z)
 unfolding e.number
 opens-integer (pos n) h = opens-number n h
 opens-integer (negsuc n) h =

@@ -49,7 +49,7 @@ no_angle-text : (text rest : List ℕ) → 1 ≤ length text → (slice_index te
 no_angle-text [] rest some angle = absurd (omega arith)
 no_angle-text (c ∷ cs) rest some angle = angle
 
-shuts-token : (kind : Kind) (text : List ℕ) → 1 ≤ length text → in_class classes.Digit (slice_index text 0) ≡ false → (slice_index text 0 == 93) ≡ false
+pub shuts-token : (kind : Kind) (text : List ℕ) → 1 ≤ length text → in_class classes.Digit (slice_index text 0) ≡ false → (slice_index text 0 == 93) ≡ false
     → Shuts (token kind text)
 shuts-token kind text some digit close rest = ap goes_on_as_size (text-first kind text rest) ∙ shuts-text text rest some digit close
 

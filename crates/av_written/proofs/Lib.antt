@@ -6,3 +6,5 @@ pub mod TypeParts
 pub mod TextsOf
 pub mod Firsts
 pub mod ExprParts
+pub mod AttrEquations
+pub mod AttrParts

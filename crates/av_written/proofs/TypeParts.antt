@@ -20,24 +20,24 @@ use Rattle.av_written.proofs.Parts.{Free, Sound, Divides, Keeps, Opens, AllOf, f
 use Rattle.av_written.proofs.Words.{memref_word, vector_word, strided_word, offset_word, number_word, size_word, any_size_word, scale_word, opens-number}
 
 -- ---- what each kind of type spells
-type-scalar : (name : List ℕ) → type_pieces (Scalar name) ≡ plain name
+pub type-scalar : (name : List ℕ) → type_pieces (Scalar name) ≡ plain name
 unfolding type_pieces
 type-scalar name =
     ap (fold-TypeText (List Piece) type_step) (sym (rolls-Scalar name)) ∙ fold-roll-TypeText (List Piece) type_step (open_type.Scalar name)
 
-type-memref : (sizes : List SizeText) (elem : List ℕ) (at : Option LayoutText) → type_pieces (MemRef sizes elem at)
+pub type-memref : (sizes : List SizeText) (elem : List ℕ) (at : Option LayoutText) → type_pieces (MemRef sizes elem at)
     ≡ plain (codes "memref") ++ sign OpenAngle ++ joined (map size_x sizes) ++ plain elem ++ layout_behind at ++ sign CloseAngle
 unfolding type_pieces
 type-memref sizes elem at =
     ap (fold-TypeText (List Piece) type_step) (sym (rolls-MemRef sizes elem at)) ∙ fold-roll-TypeText (List Piece) type_step (open_type.MemRef sizes elem at)
 
-type-vector : (dims : List DimText) (elem : List ℕ) → type_pieces (Vector dims elem)
+pub type-vector : (dims : List DimText) (elem : List ℕ) → type_pieces (Vector dims elem)
     ≡ plain (codes "vector") ++ sign OpenAngle ++ joined (map dim_x dims) ++ plain elem ++ sign CloseAngle
 unfolding type_pieces
 type-vector dims elem =
     ap (fold-TypeText (List Piece) type_step) (sym (rolls-Vector dims elem)) ∙ fold-roll-TypeText (List Piece) type_step (open_type.Vector dims elem)
 
-type-func : (inputs results : List TypeText) → type_pieces (Func inputs results)
+pub type-func : (inputs results : List TypeText) → type_pieces (Func inputs results)
     ≡ in_round (commas (map type_pieces inputs)) ++ spaced (sign Arrow) ++ one_or_several (map type_pieces results)
 unfolding type_pieces
 type-func inputs results =
@@ -159,7 +159,7 @@ sound-func inputs results h k =
 mutual
   unfolding AllOf
 
-  sound-type : (ty : TypeText) → IsReadType ty → Sound (type_pieces ty)
+  pub sound-type : (ty : TypeText) → IsReadType ty → Sound (type_pieces ty)
   sound-type _ (scalar name w) = subst Sound (sym (type-scalar name)) (sound-word name w)
   sound-type _ (mem_ref ss elem at h w l) = subst Sound (sym (type-memref ss elem at)) (sound-memref ss elem at h w l)
   sound-type _ (vector ds elem h w) = subst Sound (sym (type-vector ds elem)) (sound-vector ds elem h w)

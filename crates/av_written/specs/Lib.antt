@@ -1,4 +1,5 @@
 pub mod Spacing
 pub mod ReadTypes
 pub mod ReadExpressions
+pub mod ReadAttributes
 pub mod WrittenLaws

@@ -8,10 +8,15 @@ use Rattle.av_printer.specs.Pieces.{Piece, spelt}
 use Rattle.av_tree.specs.declared.written.MapText.{MapText}
 use Rattle.av_tree.specs.declared.written.SetText.{SetText}
 use Rattle.av_printer.specs.Expressions.{map_pieces, set_pieces, map_use, subscripts, bound}
+use Rattle.av_tree.specs.declared.attribute.Attr.{Attr}
+use Rattle.av_tree.specs.declared.attribute.Named.{Named}
+use Rattle.av_printer.specs.Attributes.{attribute}
+use Rattle.av_printer.specs.Dictionaries.{dictionary}
 use Rattle.av_printer.specs.Types.{type_pieces}
 use Rattle.av_written.specs.Spacing.{begins_apart, SpacedBefore, Spaced, tokens_of, words_of}
 use Rattle.std.specs.List.{All}
 use Rattle.av_written.specs.ReadTypes.{IsReadType}
+use Rattle.av_written.specs.ReadAttributes.{IsReadAttr, AreReadEntries}
 use Rattle.av_written.specs.ReadExpressions.{IsReadMap, IsReadSet, IsValue}
 
 -- the tokens of what spaced pieces spell are their words
@@ -55,3 +60,12 @@ MapUsesLaw = (m : MapText) (operands : List (List ℕ)) → IsReadMap m → All 
     → (rest : List ℕ) → begins_apart rest ≡ true
     → SpacedBefore (map_use m operands) rest × SpacedBefore (subscripts m operands) rest
     × ((lower : Bool) → SpacedBefore (bound lower m operands) rest)
+
+-- and of an attribute
+abbrev pub AttributesLaw : Type 0
+AttributesLaw = (a : Attr) → IsReadAttr a → (rest : List ℕ) → begins_apart rest ≡ true → SpacedBefore (attribute a) rest
+
+-- and of the entries of a dictionary
+abbrev pub DictionariesLaw : Type 0
+DictionariesLaw = (entries : List Named) → AreReadEntries entries → (rest : List ℕ) → begins_apart rest ≡ true
+    → SpacedBefore (dictionary entries) rest

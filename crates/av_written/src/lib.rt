@@ -3,7 +3,7 @@
 //! A spelling that is read again has exactly the tokens that were spelled.
 #![tactic(auto)]
 
-ghost use Rattle.av_written.specs.WrittenLaws.{ClassesLaw, MapUsesLaw, MapsLaw, NoOtherTokensLaw, PartsLaw, SetsLaw, SpellingsLaw, TokensLaw, TypesLaw};
+ghost use Rattle.av_written.specs.WrittenLaws.{AttributesLaw, ClassesLaw, DictionariesLaw, MapUsesLaw, MapsLaw, NoOtherTokensLaw, PartsLaw, SetsLaw, SpellingsLaw, TokensLaw, TypesLaw};
 
 /// The tokens of what spaced pieces spell are their words.
 pub fn words_are_tokens()
@@ -48,4 +48,14 @@ pub fn sets_are_spaced()
 /// And of a map with its operands, as subscripts and as a bound of a loop.
 pub fn uses_of_maps_are_spaced()
     ensures { MapUsesLaw }
+{}
+
+/// And of an attribute.
+pub fn attributes_are_spaced()
+    ensures { AttributesLaw }
+{}
+
+/// And of the entries of a dictionary.
+pub fn dictionaries_are_spaced()
+    ensures { DictionariesLaw }
 {}
