@@ -1,3 +1,4 @@
 pub mod Texts
 pub mod Types
 pub mod Maps
+pub mod Constants
