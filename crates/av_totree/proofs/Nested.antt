@@ -23,14 +23,14 @@ at_start f n k m ps parts none same h =
 
 take_held : (each : ℕ) (ps : List ℕ) → take (min each (length ps)) ps ≡ take each ps
 take_held each ps = elim (cases_lt (length ps) each) [
-    inl h ↦ take_all (min each (length ps)) ps (omega arith) ∙ sym (take_all each ps (omega arith))
-    | inr h ↦ let e : min each (length ps) ≡ each = omega arith in ap (λ k. take k ps) e
+  | inl h ↦ take_all (min each (length ps)) ps (omega arith) ∙ sym (take_all each ps (omega arith))
+  | inr h ↦ let e : min each (length ps) ≡ each = omega arith in ap (λ k. take k ps) e
 ]
 
 drop_held : (each : ℕ) (ps : List ℕ) → drop (min each (length ps)) ps ≡ drop each ps
 drop_held each ps = elim (cases_lt (length ps) each) [
-    inl h ↦ drop_all (min each (length ps)) ps (omega arith) ∙ sym (drop_all each ps (omega arith))
-    | inr h ↦ let e : min each (length ps) ≡ each = omega arith in ap (λ k. drop k ps) e
+  | inl h ↦ drop_all (min each (length ps)) ps (omega arith) ∙ sym (drop_all each ps (omega arith))
+  | inr h ↦ let e : min each (length ps) ≡ each = omega arith in ap (λ k. drop k ps) e
 ]
 
 pieces_left : (n done each : ℕ) (ps : List ℕ) → done < n → pieces (n - done) each ps ≡ take each ps ∷ pieces (n - (done + 1)) each (drop each ps)

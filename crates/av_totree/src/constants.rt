@@ -66,12 +66,7 @@ fn scalar_constant(alloc: Global, value: OneValue, ty: &Ty) -> Result<Attr, Allo
     }
 }
 
-fn elements(
-    alloc: Global,
-    value: &Const,
-    shape: &Shape,
-    elem: Elem,
-) -> Result<Element, AllocError>
+fn elements(alloc: Global, value: &Const, shape: &Shape, elem: Elem) -> Result<Element, AllocError>
     ensures { IfOk result (λ e. e ≡ elements_of shape.now.sizes elem value.now) }
 {
     match value {
@@ -91,12 +86,7 @@ fn element(value: OneValue) -> Element
 
 // Patterns in row-major order as lists of lists, one level for each size.
 #[cycle(nesting)]
-fn nested(
-    alloc: Global,
-    sizes: &[u16],
-    patterns: &[u64],
-    elem: Elem,
-) -> Result<Element, AllocError>
+fn nested(alloc: Global, sizes: &[u16], patterns: &[u64], elem: Elem) -> Result<Element, AllocError>
     ensures { IfOk result (λ e. e ≡ nested_of sizes.now elem patterns.now) }
 {
     match sizes {
