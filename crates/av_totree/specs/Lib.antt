@@ -1,3 +1,7 @@
 pub mod Texts
 pub mod Types
 pub mod Maps
+pub mod Constants
+pub mod Names
+pub mod Properties
+pub mod Trees

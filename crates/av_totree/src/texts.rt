@@ -4,7 +4,7 @@ ghost use Rattle.std.specs.Prelude.{◌≡◌, IfOk};
 ghost use Rattle.av_totree.specs.Texts.{entry as entry_of, numbered as numbered_text};
 
 use av_affine::{No, Seq, Text};
-use av_tree::{Attr, Named, Node};
+use av_tree::{Attr, Named};
 use std::alloc::{AllocError, Global};
 
 pub(crate) fn text_of(alloc: Global, bytes: &[u8]) -> Result<Text, AllocError>
@@ -27,20 +27,5 @@ pub(crate) fn entry(alloc: Global, name: &[u8], value: Attr) -> Result<Named, Al
     Ok(Named {
         name: text_of(alloc, name)?,
         value,
-    })
-}
-
-/// A node of a name, all else empty.
-pub(crate) fn plain_node(alloc: Global, name: &[u8]) -> Result<Node, AllocError> {
-    Ok(Node {
-        name: text_of(alloc, name)?,
-        place: 0,
-        results: Seq::new(alloc),
-        operands: Seq::new(alloc),
-        properties: Seq::new(alloc),
-        attrs: Seq::new(alloc),
-        regions: Seq::new(alloc),
-        in_types: Seq::new(alloc),
-        out_types: Seq::new(alloc),
     })
 }
