@@ -2,9 +2,10 @@
 //!
 //! `spell` makes the whole text, and `print` delivers it: the room for all of it is reserved before the
 //! first write, so want of memory leaves a sink as it was.
-#![tactic(auto)]
+#![tactic(auto, using(crate::proofs::Steps::steps))]
 
 mod attributes;
+mod dictionaries;
 mod expressions;
 mod form;
 mod generic;
