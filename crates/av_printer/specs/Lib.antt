@@ -4,5 +4,6 @@ pub mod Expressions
 pub mod Attributes
 pub mod Dictionaries
 pub mod Operations
+pub mod Examples
 pub mod Spelling
 pub mod Printing

@@ -9,6 +9,7 @@ mod dictionaries;
 mod expressions;
 mod form;
 mod generic;
+mod laws;
 mod named;
 mod nodes;
 mod printing;
@@ -17,6 +18,7 @@ mod types;
 mod writer;
 
 pub use form::Form;
+pub use laws::worked_examples;
 pub use nodes::spell;
 pub use printing::{PrintFault, print};
 
