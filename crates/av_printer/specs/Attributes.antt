@@ -8,7 +8,7 @@ use Rattle.av_tree.specs.declared.attribute.Element.TheOpen as elements
 use Rattle.av_tree.specs.declared.attribute.Attr.{Attr, Attr-F, fold-Attr}
 use Rattle.av_tree.specs.declared.attribute.Attr.TheOpen as attrs
 use Rattle.av_tree.specs.declared.attribute.Named.{Named, Named-F, fold-Named}
-use Rattle.av_printer.specs.Pieces.{Piece, space, token, sign, plain, colon, spaced, commas, in_square, in_curly}
+use Rattle.av_printer.specs.Pieces.{Piece, token, sign, plain, colon, spaced, commas, in_square, in_curly}
 use Rattle.av_printer.specs.Types.{type_pieces}
 use Rattle.av_printer.specs.Expressions.{number, map_pieces, set_pieces}
 

@@ -1,5 +1,5 @@
 -- The spelling of numbers, names, affine expressions, maps and sets.
-use Rattle.std.specs.Prelude.{ℕ, suc, ℤ, pos, negsuc, Bool, true, false, List, [], ◌∷◌, ◌++◌, map, length, min, take, drop, nat_lt, nat_eq, ◌==◌, Option, Some, None, if◌then◌else◌, codes, decimal}
+use Rattle.std.specs.Prelude.{ℕ, suc, ℤ, pos, negsuc, Bool, false, List, [], ◌∷◌, ◌++◌, map, length, take, drop, nat_lt, nat_eq, ◌==◌, Option, Some, None, if◌then◌else◌, codes, decimal}
 use Rattle.std.specs.Cmp.Lexicographic.{pointwise}
 use Rattle.av_lex.specs.declared.token.Kind.TheVariants as kinds
 use Rattle.av_lex.specs.declared.token.Sign.TheVariants.{OpenAngle, CloseAngle, Colon, Arrow, Plus, Minus, Star, AtLeast, EqualEqual}

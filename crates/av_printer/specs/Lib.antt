@@ -3,4 +3,7 @@ pub mod Types
 pub mod Expressions
 pub mod Attributes
 pub mod Dictionaries
+pub mod Operations
+pub mod Examples
+pub mod Spelling
 pub mod Printing

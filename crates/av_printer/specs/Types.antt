@@ -1,7 +1,7 @@
 -- The spelling of types.
-use Rattle.std.specs.Prelude.{ℕ, List, [], ◌∷◌, ◌++◌, map, Option, Some, None, codes, decimal}
+use Rattle.std.specs.Prelude.{List, [], ◌∷◌, ◌++◌, map, Option, Some, None, codes, decimal}
 use Rattle.av_lex.specs.declared.token.Kind.TheVariants as kinds
-use Rattle.av_lex.specs.declared.token.Sign.TheVariants.{OpenSquare, CloseSquare, OpenAngle, CloseAngle, Comma, Colon, Question, Arrow}
+use Rattle.av_lex.specs.declared.token.Sign.TheVariants.{OpenAngle, CloseAngle, Question, Arrow}
 use Rattle.av_tree.specs.declared.written.SizeText.{SizeText}
 use Rattle.av_tree.specs.declared.written.SizeText.TheVariants as sizes
 use Rattle.av_tree.specs.declared.written.DimText.{DimText}
@@ -9,7 +9,7 @@ use Rattle.av_tree.specs.declared.written.DimText.TheVariants as dims
 use Rattle.av_tree.specs.declared.written.LayoutText.{LayoutText}
 use Rattle.av_tree.specs.declared.written.TypeText.{TypeText, TypeText-F, fold-TypeText}
 use Rattle.av_tree.specs.declared.written.TypeText.TheOpen.{Scalar, MemRef, Vector, Func}
-use Rattle.av_printer.specs.Pieces.{Piece, spelt, space, token, sign, plain, comma, colon, spaced, commas, joined, in_round, in_square}
+use Rattle.av_printer.specs.Pieces.{Piece, token, sign, plain, comma, colon, spaced, commas, joined, in_round, in_square}
 
 -- a size that stands alone
 abbrev pub size_alone : SizeText → List Piece

@@ -2,12 +2,14 @@
 //!
 //! `spell` makes the whole text, and `print` delivers it: the room for all of it is reserved before the
 //! first write, so want of memory leaves a sink as it was.
-#![tactic(auto)]
+#![tactic(auto, using(crate::proofs::Steps::steps))]
 
 mod attributes;
+mod dictionaries;
 mod expressions;
 mod form;
 mod generic;
+mod laws;
 mod named;
 mod nodes;
 mod printing;
@@ -16,6 +18,7 @@ mod types;
 mod writer;
 
 pub use form::Form;
+pub use laws::worked_examples;
 pub use nodes::spell;
 pub use printing::{PrintFault, print};
 

@@ -1,11 +1,16 @@
 //! Operations, line by line.
+ghost use Rattle.std.specs.Prelude.{◌≡◌, ◌++◌, ◌+◌, None, map, IfOk};
+ghost use Rattle.av_printer.specs.Pieces.{spelt, commas, joined};
+ghost use Rattle.av_printer.specs.Operations.{results_before};
+ghost use Rattle.av_printer.specs.Spelling.{operation_of, node_line, own_body, label, common_body, common_regions, left_out, form_of, is_yield, is_silent, pieces_of, spelling};
 
+use crate::expressions::print_texts;
 use crate::form::Form;
-use crate::generic::{close_generic, open_generic, open_generic_region};
-use crate::named::{NamedForm, close_named, named_form, open_named, open_named_region};
+use crate::generic::{close_generic, open_generic, print_arguments};
+use crate::named::{NamedForm, close_named, named_form, open_named};
 use crate::writer::Writer;
 use av_affine::Text;
-use av_tree::{Body, Node, Tree};
+use av_tree::{Body, BodyArg, Node, Tree};
 use std::alloc::{AllocError, Global};
 
 /// The whole text of a tree.
@@ -13,85 +18,190 @@ use std::alloc::{AllocError, Global};
 /// # Errors
 ///
 /// Want of memory.
-pub fn spell(alloc: Global, tree: &Tree, form: Form) -> Result<Text, AllocError> {
+#[tactic(auto, using(crate::proofs::Steps::steps), unfolding(crate::specs::Spelling::spelling))]
+pub fn spell(alloc: Global, tree: &Tree, form: Form) -> Result<Text, AllocError>
+    ensures { IfOk result (λ text. text ≡ spelling form tree.now) }
+{
     let mut out = Writer::new(alloc);
-    print_node(&mut out, &tree.root, form)?;
+    print_node(&mut out, &tree.root, form, 0)?;
+    out.push_line(0)?;
     Ok(out.finish())
 }
 
-// An operation and those in its regions, on lines of their own.
-fn print_node(out: &mut Writer, node: &Node, form: Form) -> Result<(), AllocError> {
-    let named = match form {
-        Form::Named => named_form(node.name.as_slice()),
-        Form::Generic => None,
-    };
-    let inside = if named.is_some() {
-        Form::Named
-    } else {
-        Form::Generic
-    };
-    open_node(out, node, named)?;
-    for (at, region) in node.regions.as_slice().iter().enumerate() {
-        open_region(out, at, region, named)?;
-        out.go_in();
-        for child in region.nodes.as_slice() {
-            if !is_left_out(child, inside) {
-                print_node(out, child, inside)?;
-            }
-        }
-        out.go_out();
-    }
-    close_node(out, node, named)
-}
-
-// What stands before the first region.
-fn open_node(out: &mut Writer, node: &Node, named: Option<NamedForm>) -> Result<(), AllocError> {
-    out.begin_line()?;
+// An operation, and those in its regions on lines of their own.
+#[tactic(auto, using(crate::proofs::Steps::steps, crate::proofs::NodeSteps::node_steps))]
+#[cycle(nodes)]
+fn print_node(out: &mut Writer, node: &Node, form: Form, depth: usize) -> Result<(), AllocError>
+    ensures { IfOk result (λ _. out.new ≡ out.old ++ spelt ((operation_of node.now).whole form depth)) }
+{
     print_results(out, node.results.as_slice())?;
-    match named {
-        Some(named) => open_named(out, node, named),
-        None => open_generic(out, node),
+    match form_for(node.name.as_slice(), form) {
+        Some(named) => {
+            open_named(out, node, named)?;
+            print_own_regions(out, node.regions.as_slice(), depth)?;
+            close_named(out, node, named)?;
+        }
+        None => {
+            open_generic(out, node)?;
+            print_common_regions(out, node.regions.as_slice(), depth)?;
+            close_generic(out, node)?;
+        }
+    }
+    Ok(())
+}
+
+fn form_for(name: &[u8], form: Form) -> Option<NamedForm>
+    ensures { result ≡ form_of form name.now }
+{
+    match form {
+        Form::Named => named_form(name),
+        Form::Generic => None,
     }
 }
 
-fn print_results(out: &mut Writer, results: &[Text]) -> Result<(), AllocError> {
-    if results.is_empty() {
+// The names of results and the sign behind them; nothing where there is none.
+#[tactic(auto, using(crate::proofs::Steps::steps, crate::proofs::NodeSteps::results_steps, crate::proofs::ExpressionSteps::result_steps))]
+fn print_results(out: &mut Writer, results: &[Text]) -> Result<(), AllocError>
+    ensures { IfOk result (λ _. out.new ≡ out.old ++ spelt (results_before results.now)) }
+{
+    if !results.is_empty() {
+        print_texts(out, results)?;
+        out.push_bytes(b" = ")?;
+    }
+    Ok(())
+}
+
+// Regions of an operation in its own form.
+#[cycle(nodes)]
+fn print_own_regions(out: &mut Writer, regions: &[Body], depth: usize) -> Result<(), AllocError>
+    ensures { IfOk result (λ _. out.new ≡ out.old ++ spelt (joined (map (own_body depth) regions.now))) }
+{
+    for region in regions {
+        print_own_region(out, region, depth)?;
+    }
+    Ok(())
+}
+
+#[tactic(auto, using(crate::proofs::Steps::steps, crate::proofs::NodeSteps::region_steps))]
+#[cycle(nodes)]
+fn print_own_region(out: &mut Writer, region: &Body, depth: usize) -> Result<(), AllocError>
+    ensures { IfOk result (λ _. out.new ≡ out.old ++ spelt (own_body depth region.now)) }
+{
+    let inside = deeper(depth)?;
+    out.push_bytes(b" {")?;
+    print_operations(out, region.nodes.as_slice(), Form::Named, inside)?;
+    out.push_line(depth)?;
+    out.push_bytes(b"}")?;
+    Ok(())
+}
+
+// Regions of an operation in the form that all have in common.
+#[tactic(auto, using(crate::proofs::Steps::steps, crate::proofs::NodeSteps::region_steps))]
+#[cycle(nodes)]
+fn print_common_regions(out: &mut Writer, regions: &[Body], depth: usize) -> Result<(), AllocError>
+    ensures { IfOk result (λ _. out.new ≡ out.old ++ spelt (common_regions (map (common_body depth) regions.now))) }
+{
+    if regions.is_empty() {
         return Ok(());
     }
-    for (i, result) in results.iter().enumerate() {
+    out.push_bytes(b" (")?;
+    for (i, region) in regions.iter().enumerate() {
         out.push_comma_after(i)?;
-        out.push_text(result)?;
+        print_common_region(out, region, depth)?;
     }
-    out.push_bytes(b" = ")
+    out.push_bytes(b")")?;
+    Ok(())
 }
 
-fn open_region(
+#[tactic(auto, using(crate::proofs::Steps::steps, crate::proofs::NodeSteps::region_steps))]
+#[cycle(nodes)]
+fn print_common_region(out: &mut Writer, region: &Body, depth: usize) -> Result<(), AllocError>
+    ensures { IfOk result (λ _. out.new ≡ out.old ++ spelt (common_body depth region.now)) }
+{
+    let inside = deeper(depth)?;
+    out.push_bytes(b"{")?;
+    print_label(out, region.args.as_slice(), depth)?;
+    print_operations(out, region.nodes.as_slice(), Form::Generic, inside)?;
+    out.push_line(depth)?;
+    out.push_bytes(b"}")?;
+    Ok(())
+}
+
+// A label with the arguments of a region, on a line of its own; nothing where there is none.
+#[tactic(auto, using(crate::proofs::Steps::steps, crate::proofs::NodeSteps::label_steps))]
+fn print_label(out: &mut Writer, args: &[BodyArg], depth: usize) -> Result<(), AllocError>
+    ensures { IfOk result (λ _. out.new ≡ out.old ++ spelt (label depth args.now)) }
+{
+    if !args.is_empty() {
+        out.push_line(depth)?;
+        out.push_bytes(b"^bb0")?;
+        print_arguments(out, args)?;
+        out.push_bytes(b":")?;
+    }
+    Ok(())
+}
+
+// The depth of a region's lines. No tree in memory is as deep as numbers go.
+fn deeper(depth: usize) -> Result<usize, AllocError>
+    ensures { IfOk result (λ d. d ≡ depth + 1) }
+{
+    match depth.checked_add(1) {
+        Some(inside) => Ok(inside),
+        None => Err(AllocError),
+    }
+}
+
+#[cycle(nodes)]
+fn print_operations(
     out: &mut Writer,
-    at: usize,
-    region: &Body,
-    named: Option<NamedForm>,
-) -> Result<(), AllocError> {
-    match named {
-        Some(_) => open_named_region(out, at),
-        None => open_generic_region(out, at, region),
+    nodes: &[Node],
+    form: Form,
+    depth: usize,
+) -> Result<(), AllocError>
+    ensures { IfOk result (λ _. out.new ≡ out.old ++ spelt (joined (map (node_line form depth) nodes.now))) }
+{
+    for node in nodes {
+        print_line(out, node, form, depth)?;
     }
+    Ok(())
 }
 
-// What stands after the last region.
-fn close_node(out: &mut Writer, node: &Node, named: Option<NamedForm>) -> Result<(), AllocError> {
-    match named {
-        Some(named) => close_named(out, node, named)?,
-        None => close_generic(out, node)?,
+// An operation on a line of its own, unless its own form leaves it out.
+#[tactic(auto, using(crate::proofs::Steps::steps, crate::proofs::NodeSteps::line_steps))]
+#[cycle(nodes)]
+fn print_line(out: &mut Writer, node: &Node, form: Form, depth: usize) -> Result<(), AllocError>
+    ensures { IfOk result (λ _. out.new ≡ out.old ++ spelt (node_line form depth node.now)) }
+{
+    if !is_left_out(node, form) {
+        out.push_line(depth)?;
+        print_node(out, node, form, depth)?;
     }
-    out.end_line()
+    Ok(())
 }
 
 // Whether the named form leaves an operation out: a yield without values.
-fn is_left_out(node: &Node, form: Form) -> bool {
-    form == Form::Named
-        && node.operands.is_empty()
-        && matches!(
-            node.name.as_slice(),
-            b"affine.yield" | b"scf.yield" | b"vector.yield"
-        )
+#[tactic(auto, using(crate::proofs::NodeSteps::silent_steps))]
+fn is_left_out(node: &Node, form: Form) -> bool
+    ensures { result ≡ left_out form (operation_of node.now) }
+{
+    match form {
+        Form::Named => is_silent(node.name.as_slice(), node.operands.as_slice()),
+        Form::Generic => false,
+    }
+}
+
+#[tactic(auto, using(crate::proofs::NodeSteps::silent_steps))]
+fn is_silent(name: &[u8], operands: &[Text]) -> bool
+    ensures { result ≡ is_silent name.now operands.now }
+{
+    operands.is_empty() && is_yield(name)
+}
+
+#[tactic(auto, unfolding(crate::specs::Spelling::is_yield))]
+fn is_yield(name: &[u8]) -> bool
+    ensures { result ≡ is_yield name.now }
+{
+    name == b"affine.yield".as_slice()
+        || name == b"scf.yield".as_slice()
+        || name == b"vector.yield".as_slice()
 }

@@ -1,7 +1,8 @@
 //! Delivering the text of a tree.
 
-ghost use Rattle.std.specs.Prelude.{◌≡◌, List, ℕ, OnOk, OnErr, IfErr};
+ghost use Rattle.std.specs.Prelude.{◌≡◌, OnOk};
 ghost use Rattle.av_printer.specs.Printing.{Whole, Part, Same};
+ghost use Rattle.av_printer.specs.Spelling.{spelling};
 ghost use Rattle.av_printer.specs.declared.printing.PrintFault.TheVariants.{WriteFault, NoMemory};
 
 use crate::form::Form;
@@ -38,8 +39,8 @@ impl From<AllocError> for PrintFault {
 ///
 /// A write failed, or memory lacks.
 pub fn print<S: Sink>(alloc: Global, tree: &Tree, form: Form, to: &mut S) -> Result<(), PrintFault>
-    ensures whole { OnOk result ((text : List ℕ) × Whole text (S.held to.old) (S.held to.new) (S.faults to.old) (S.faults to.new)) }
-    ensures part { result ≡ Err WriteFault → (text : List ℕ) × Part text (S.held to.old) (S.held to.new) (S.faults to.old) (S.faults to.new) }
+    ensures whole { OnOk result (Whole (spelling form tree.now) (S.held to.old) (S.held to.new) (S.faults to.old) (S.faults to.new)) }
+    ensures part { result ≡ Err WriteFault → Part (spelling form tree.now) (S.held to.old) (S.held to.new) (S.faults to.old) (S.faults to.new) }
     ensures nothing { result ≡ Err NoMemory → Same (S.held to.old) (S.held to.new) (S.faults to.old) (S.faults to.new) }
 {
     let text = spell(alloc, tree, form)?;

@@ -1,0 +1,339 @@
+-- The spelling of operations beside their regions: in a form of their own, and in the form that all have in common.
+use Rattle.std.specs.Prelude.{ℕ, ℤ, pos, ◌+◌, Bool, true, false, ◌||◌, List, [], ◌∷◌, ◌++◌, map, length, take, drop, Option, Some, None, if◌then◌else◌, codes}
+use Rattle.std.specs.Ordering.{int_eq}
+use Rattle.av_lex.specs.declared.token.Kind.TheVariants as kinds
+use Rattle.av_lex.specs.declared.token.Sign.TheVariants.{OpenAngle, CloseAngle, OpenCurly, CloseCurly, Colon, Equal, Arrow, Question}
+use Rattle.av_tree.specs.declared.written.TypeText.{TypeText, TypeText-F, out-TypeText}
+use Rattle.av_tree.specs.declared.written.TypeText.TheOpen as types
+use Rattle.av_tree.specs.declared.written.MapText.{MapText}
+use Rattle.av_tree.specs.declared.attribute.Attr.{Attr, Attr-F, out-Attr}
+use Rattle.av_tree.specs.declared.attribute.Attr.TheOpen as attrs
+use Rattle.av_tree.specs.declared.attribute.Named.{Named, out-Named}
+use Rattle.av_tree.specs.declared.node.BodyArg.{BodyArg}
+use Rattle.av_tree.specs.declared.node.Node.{Node, out-Node}
+use Rattle.av_tree.specs.declared.node.Body.{Body, out-Body}
+use Rattle.av_printer.specs.declared.named.NamedForm.{NamedForm}
+use Rattle.av_printer.specs.declared.named.NamedForm.TheVariants as own
+use Rattle.av_printer.specs.Pieces.{Piece, space, token, sign, plain, comma, colon, spaced, commas, in_round}
+use Rattle.av_printer.specs.Types.{type_pieces, one_or_several}
+use Rattle.av_printer.specs.Expressions.{number, value, result_name, same, bound, subscripts}
+use Rattle.av_printer.specs.Attributes.{attribute}
+use Rattle.av_printer.specs.Dictionaries.{dictionary}
+
+-- an operation without its regions, but with the arguments of the first one
+pub record Head : Type 0 where
+  pub name : List ℕ
+  pub results : List (List ℕ)
+  pub operands : List (List ℕ)
+  pub properties : List Named
+  pub attrs : List Named
+  pub in_types : List (Option TypeText)
+  pub out_types : List (Option TypeText)
+  pub arguments : List BodyArg
+
+abbrev pub first_of : List (List BodyArg) → List BodyArg
+first_of [] = []
+first_of (args ∷ others) = args
+
+abbrev pub arguments_of : Node → List BodyArg
+arguments_of node = first_of (map (λ (body : Body). (out-Body body).args) (out-Node node).regions)
+
+abbrev pub head_of : Node → Head
+head_of node = record {
+  name = (out-Node node).name;
+  results = (out-Node node).results;
+  operands = (out-Node node).operands;
+  properties = (out-Node node).properties;
+  attrs = (out-Node node).attrs;
+  in_types = (out-Node node).in_types;
+  out_types = (out-Node node).out_types;
+  arguments = arguments_of node;
+}
+
+-- ---- parts of lines
+-- the value of the first entry of a name
+unfoldable pub property : List Named → List ℕ → Option Attr
+property [] name = None
+property (e ∷ entries) name = if same (out-Named e).name name then Some (out-Named e).value else property entries name
+
+-- `%0, %1 = `, or nothing where there is no result
+unfoldable pub results_before : List (List ℕ) → List Piece
+results_before [] = []
+results_before (first ∷ others) = commas (map result_name (first ∷ others)) ++ spaced (sign Equal)
+
+-- `%a: i32`
+unfoldable pub argument : BodyArg → List Piece
+argument a = token kinds.ValId a.name ++ colon ++ type_pieces a.ty
+
+unfoldable pub arguments_pieces : List BodyArg → List Piece
+arguments_pieces args = in_round (commas (map argument args))
+
+-- values between commas, and in round brackets
+unfoldable pub values_pieces : List (List ℕ) → List Piece
+values_pieces values = commas (map value values)
+
+unfoldable pub values_in_round : List (List ℕ) → List Piece
+values_in_round values = in_round (values_pieces values)
+
+-- a type, or `?` where the tree has none
+unfoldable pub known_type : Option TypeText → List Piece
+known_type None = sign Question
+known_type (Some ty) = type_pieces ty
+
+unfoldable pub known_types : List (Option TypeText) → List Piece
+known_types types = commas (map known_type types)
+
+unfoldable pub known_in_round : List (Option TypeText) → List Piece
+known_in_round types = in_round (known_types types)
+
+-- ` : T`, the first type of several
+unfoldable pub first_type : List (Option TypeText) → List Piece
+first_type [] = []
+first_type (ty ∷ types) = spaced (sign Colon) ++ known_type ty
+
+-- ` {affvec.loop = 0 : i64}`, or nothing where there is no mark
+unfoldable pub marks_behind : List Named → List Piece
+marks_behind [] = []
+marks_behind (first ∷ others) = space ++ sign OpenCurly ++ dictionary (first ∷ others) ++ sign CloseCurly
+
+-- ---- what attributes say
+abbrev pub text_in : Attr-F Attr Named → List ℕ
+text_in (attrs.Quoted text) = text
+text_in other = []
+
+unfoldable pub text_of : Option Attr → List ℕ
+text_of None = []
+text_of (Some a) = text_in (out-Attr a)
+
+abbrev pub map_in : Attr-F Attr Named → Option MapText
+map_in (attrs.Map m) = Some m
+map_in other = None
+
+unfoldable pub map_of : Option Attr → Option MapText
+map_of None = None
+map_of (Some a) = map_in (out-Attr a)
+
+abbrev pub number_in : Attr-F Attr Named → ℤ
+number_in (attrs.Number z ty) = z
+number_in other = pos 1
+
+-- a step that isn't written is 1
+unfoldable pub step_of : Option Attr → ℤ
+step_of None = pos 1
+step_of (Some a) = number_in (out-Attr a)
+
+abbrev pub results_in_type : TypeText-F TypeText → List TypeText
+results_in_type (types.Func inputs results) = results
+results_in_type other = []
+
+unfoldable pub results_of_type : TypeText → List TypeText
+results_of_type ty = results_in_type (out-TypeText ty)
+
+abbrev pub results_in : Attr-F Attr Named → List TypeText
+results_in (attrs.Type ty) = results_of_type ty
+results_in other = []
+
+unfoldable pub results_of : Option Attr → List TypeText
+results_of None = []
+results_of (Some a) = results_in (out-Attr a)
+
+-- ---- forms of their own
+-- `func.func @f(%arg0: i32) -> i32 attributes {affvec.distinct}`
+unfoldable pub results_behind : List TypeText → List Piece
+results_behind [] = []
+results_behind (first ∷ others) = spaced (sign Arrow) ++ one_or_several (map type_pieces (first ∷ others))
+
+unfoldable pub function_name : List ℕ → List Piece
+function_name name = plain (codes "func.func") ++ space ++ token kinds.SymId (codes "@" ++ name)
+
+unfoldable pub attributes_word : List Named → List Piece
+attributes_word [] = []
+attributes_word (first ∷ others) = space ++ plain (codes "attributes")
+
+unfoldable pub function_line : Head → List Piece
+function_line h =
+    function_name (text_of (property h.properties (codes "sym_name"))) ++ arguments_pieces h.arguments
+    ++ results_behind (results_of (property h.properties (codes "function_type"))) ++ attributes_word h.attrs ++ marks_behind h.attrs
+
+-- `affine.yield %0, %1 : i32, i32`, or the word alone where there is no value
+unfoldable pub values_behind : List (List ℕ) → List (Option TypeText) → List Piece
+values_behind [] types = []
+values_behind (first ∷ others) types =
+    space ++ values_pieces (first ∷ others) ++ spaced (sign Colon) ++ known_types types
+
+abbrev pub return_line : Head → List Piece
+return_line h = plain (codes "return") ++ values_behind h.operands h.in_types
+
+abbrev pub yield_line : Head → List Piece
+yield_line h = plain (codes "affine.yield") ++ values_behind h.operands h.in_types
+
+-- `arith.constant 1 : i32`
+unfoldable pub constant_value : Option Attr → List Piece
+constant_value None = []
+constant_value (Some a) = attribute a
+
+unfoldable pub constant_line : Head → List Piece
+constant_line h = plain (codes "arith.constant") ++ space ++ constant_value (property h.properties (codes "value"))
+
+-- `arith.addi %0, %1 : i32`
+unfoldable pub binary_line : Head → List Piece
+binary_line h = plain h.name ++ space ++ values_pieces h.operands ++ first_type h.out_types
+
+-- `affine.for %arg1 = 0 to 8 step 2 iter_args(%arg2 = %0) -> (i32)`
+unfoldable pub variable : List BodyArg → List Piece
+variable [] = []
+variable (a ∷ args) = token kinds.ValId a.name
+
+abbrev pub operands_of : Option MapText → ℕ
+operands_of None = 0
+operands_of (Some m) = length m.dims + length m.syms
+
+unfoldable pub bound_if_any : Bool → Option MapText → List (List ℕ) → List Piece
+bound_if_any lower None operands = []
+bound_if_any lower (Some m) operands = bound lower m operands
+
+unfoldable pub step_behind : ℤ → List Piece
+step_behind z = if int_eq z (pos 1) then [] else space ++ plain (codes "step") ++ space ++ number z
+
+-- `%arg2 = %0`
+unfoldable pub carried_pair : BodyArg → List ℕ → List Piece
+carried_pair a v = token kinds.ValId a.name ++ spaced (sign Equal) ++ value v
+
+-- as far as there are arguments and values
+unfoldable pub carried : List BodyArg → List (List ℕ) → List (List Piece)
+carried [] values = []
+carried (a ∷ args) [] = []
+carried (a ∷ args) (v ∷ values) = carried_pair a v ∷ carried args values
+
+unfoldable pub carried_in_round : List BodyArg → List (List ℕ) → List Piece
+carried_in_round args values = in_round (commas (carried args values))
+
+unfoldable pub carried_behind : List BodyArg → List (List ℕ) → List (Option TypeText) → List Piece
+carried_behind args [] types = []
+carried_behind args (first ∷ others) types =
+    space ++ plain (codes "iter_args") ++ carried_in_round (drop 1 args) (first ∷ others) ++ spaced (sign Arrow) ++ known_in_round types
+
+-- the operands are those of the lower bound, those of the upper bound, and the initial values
+unfoldable pub bounds_between : Option MapText → List (List ℕ) → Option MapText → List (List ℕ) → List Piece
+bounds_between lower of_lower upper of_upper =
+    bound_if_any true lower of_lower ++ spaced (plain (codes "to")) ++ bound_if_any false upper of_upper
+
+abbrev pub loop_bounds : Option MapText → Option MapText → List (List ℕ) → List Piece
+loop_bounds lower upper operands =
+    bounds_between lower (take (operands_of lower) operands) upper (take (operands_of upper) (drop (operands_of lower) operands))
+
+abbrev pub initial_values : Option MapText → Option MapText → List (List ℕ) → List (List ℕ)
+initial_values lower upper operands = drop (operands_of upper) (drop (operands_of lower) operands)
+
+unfoldable pub loop_start : List BodyArg → List Piece
+loop_start args = plain (codes "affine.for") ++ space ++ variable args ++ spaced (sign Equal)
+
+unfoldable pub loop_with : Option MapText → Option MapText → ℤ → Head → List Piece
+loop_with lower upper step h =
+    loop_start h.arguments ++ loop_bounds lower upper h.operands ++ step_behind step
+    ++ carried_behind h.arguments (initial_values lower upper h.operands) h.out_types
+
+unfoldable pub loop_line : Head → List Piece
+loop_line h =
+    loop_with (map_of (property h.properties (codes "lowerBoundMap"))) (map_of (property h.properties (codes "upperBoundMap")))
+    (step_of (property h.properties (codes "step"))) h
+
+-- `%arg0[%arg1 + 1] {affvec.of = 3 : i64}`
+unfoldable pub subscripts_if_any : Option MapText → List (List ℕ) → List Piece
+subscripts_if_any None operands = []
+subscripts_if_any (Some m) operands = subscripts m operands
+
+unfoldable pub buffer : Option MapText → List (List ℕ) → List Piece
+buffer m [] = []
+buffer m (first ∷ others) = value first ++ subscripts_if_any m others
+
+unfoldable pub access : Head → List (List ℕ) → List Piece
+access h operands = buffer (map_of (property h.properties (codes "map"))) operands ++ marks_behind h.attrs
+
+-- `affine.load %arg0[%arg1] : memref<8xi32>`
+unfoldable pub load_line : Head → List Piece
+load_line h = plain (codes "affine.load") ++ space ++ access h h.operands ++ first_type h.in_types
+
+-- `affine.store %0, %arg0[%arg1] : memref<8xi32>`
+unfoldable pub stored_value : List (List ℕ) → List Piece
+stored_value [] = []
+stored_value (first ∷ others) = value first ++ comma
+
+unfoldable pub store_line : Head → List Piece
+store_line h =
+    plain (codes "affine.store") ++ space ++ stored_value h.operands ++ access h (drop 1 h.operands) ++ first_type (drop 1 h.in_types)
+
+abbrev pub own_line : NamedForm → Head → List Piece
+own_line own.Module h = plain (codes "module")
+own_line own.Function h = function_line h
+own_line own.Return h = return_line h
+own_line own.Constant h = constant_line h
+own_line own.Binary h = binary_line h
+own_line own.Loop h = loop_line h
+own_line own.Yield h = yield_line h
+own_line own.Load h = load_line h
+own_line own.Store h = store_line h
+
+-- the marks of a loop stand behind its region
+abbrev pub own_end : NamedForm → Head → List Piece
+own_end own.Loop h = marks_behind h.attrs
+own_end other h = []
+
+-- ---- which form
+abbrev pub is_division : List ℕ → Bool
+is_division name =
+    same name (codes "arith.divsi") || same name (codes "arith.divui") || same name (codes "arith.remsi") || same name (codes "arith.remui")
+    || same name (codes "arith.floordivsi") || same name (codes "arith.ceildivsi") || same name (codes "arith.ceildivui")
+
+abbrev pub is_logic : List ℕ → Bool
+is_logic name =
+    same name (codes "arith.andi") || same name (codes "arith.ori") || same name (codes "arith.xori") || same name (codes "arith.shli")
+    || same name (codes "arith.shrsi") || same name (codes "arith.shrui")
+
+abbrev pub is_choice : List ℕ → Bool
+is_choice name =
+    same name (codes "arith.minsi") || same name (codes "arith.minui") || same name (codes "arith.maxsi") || same name (codes "arith.maxui")
+
+abbrev pub is_sum : List ℕ → Bool
+is_sum name = same name (codes "arith.addi") || same name (codes "arith.subi") || same name (codes "arith.muli")
+
+unfoldable pub is_binary : List ℕ → Bool
+is_binary name = is_sum name || is_division name || is_logic name || is_choice name
+
+unfoldable pub arith_form : List ℕ → Option NamedForm
+arith_form name =
+    if same name (codes "arith.constant") then Some own.Constant else (if is_binary name then Some own.Binary else None)
+
+unfoldable pub own_form : List ℕ → Option NamedForm
+own_form name =
+    if same name (codes "builtin.module") then Some own.Module else (
+    if same name (codes "func.func") then Some own.Function else (
+    if same name (codes "func.return") then Some own.Return else (
+    if same name (codes "affine.for") then Some own.Loop else (
+    if same name (codes "affine.yield") then Some own.Yield else (
+    if same name (codes "affine.load") then Some own.Load else (
+    if same name (codes "affine.store") then Some own.Store else arith_form name))))))
+
+-- ---- the form that all have in common
+-- ` <{map = ..}>`, or nothing where there is no property
+unfoldable pub properties_behind : List Named → List Piece
+properties_behind [] = []
+properties_behind (first ∷ others) =
+    space ++ sign OpenAngle ++ sign OpenCurly ++ dictionary (first ∷ others) ++ sign CloseCurly ++ sign CloseAngle
+
+unfoldable pub quoted_name : List ℕ → List Piece
+quoted_name name = token kinds.Quoted (codes "\"" ++ name ++ codes "\"")
+
+-- `"affine.load"(%arg0, %arg1) <{map = ..}>`
+unfoldable pub common_line : Head → List Piece
+common_line h = quoted_name h.name ++ values_in_round h.operands ++ properties_behind h.properties
+
+unfoldable pub known_results : List (Option TypeText) → List Piece
+known_results types = one_or_several (map known_type types)
+
+-- ` : (i32) -> i32`
+unfoldable pub signature : List (Option TypeText) → List (Option TypeText) → List Piece
+signature inputs results = spaced (sign Colon) ++ known_in_round inputs ++ spaced (sign Arrow) ++ known_results results
+
+unfoldable pub common_end : Head → List Piece
+common_end h = marks_behind h.attrs ++ signature h.in_types h.out_types
