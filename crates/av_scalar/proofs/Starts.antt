@@ -94,10 +94,10 @@ module _ (f : Func) (args : Args) (types : List Ty) (kinds : List Ty) (env : Env
   func_ends now ps left h b memory at e is =
       let end : Ending = record { memory = memory_of (record { at = bound.at; kinds = kinds }) now; handed = values ps } in
       let same : ended_with end ≡ ends e 0 =
-          ap (λ rs. ends (record { buffers = map (buffer_at now) bound.at; results = rs }) 0) (words_back ps)
-          ∙ ap (λ ks. ends (record { buffers = map (buffer_at now) ks; results = ps }) 0) (sym at)
-          ∙ ap (λ ms. ends (record { buffers = map (buffer_at ms) b.at; results = ps }) 0) (sym memory)
-          ∙ ap (λ x. ends x 0) (sym is) in
+      ap (λ rs. ends (record { buffers = map (buffer_at now) bound.at; results = rs }) 0) (words_back ps)
+      ∙ ap (λ ks. ends (record { buffers = map (buffer_at now) ks; results = ps }) 0) (sym at)
+      ∙ ap (λ ms. ends (record { buffers = map (buffer_at ms) b.at; results = ps }) 0) (sym memory)
+      ∙ ap (λ x. ends x 0) (sym is) in
       let over : EndsAt (followed body ended_with) steps e left =
-          (goes_on body ended_with steps end left h).ended e left (ends_now (ended_with end) e same left) in
+      (goes_on body ended_with steps end left h).ended e left (ends_now (ended_with end) e same left) in
       within_budget (run_scalar_of f args) steps e left ((leads_as (followed body ended_with) (run_scalar_of f args) steps whole).ended e left over)

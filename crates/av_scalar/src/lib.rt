@@ -9,6 +9,8 @@ mod names;
 mod operations;
 mod running;
 mod scalar;
+mod testing;
 mod words;
 
 pub use scalar::run_scalar;
+pub use testing::is_runnable;
