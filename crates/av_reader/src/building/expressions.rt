@@ -1,8 +1,8 @@
 //! Rows of maps and expressions, and of subscripts, which are expressions with values for names.
 
-use super::attributes::{integer_of, text_before};
+use super::attributes::{integer_of, no_texts, same_texts, text_before};
 use super::stack::{Fault, Stack, before, in_order};
-use super::value::{Expression, LeafKind, Operator, Parameters, Part, Value};
+use super::value::{Expression, LeafKind, Operator, Parameters, Part};
 use av_affine::{Held, Seq, Text};
 use av_tree::table::{MapRule, SubscriptRule};
 use av_tree::{Attr, ExprText, MapText};
@@ -11,21 +11,13 @@ use std::alloc::Global;
 pub(super) fn reduce_map(stack: &mut Stack, rule: MapRule) -> Result<(), Fault> {
     match rule {
         MapRule::WrittenMap => written_map(stack),
-        MapRule::DimensionNames => {
-            let dims = stack.texts()?;
-            let syms = stack.texts()?;
-            stack.push(Value::Parameters(Parameters { dims, syms }))
-        }
-        MapRule::NoSymbolNames | MapRule::NoWords | MapRule::NoMoreWords => {
-            stack.push(Value::Texts(Vec::new(stack.alloc())))
-        }
-        MapRule::WrittenSymbolNames | MapRule::PlainFactor => Ok(()),
+        MapRule::DimensionNames => dimension_names(stack),
+        MapRule::NoSymbolNames | MapRule::NoWords | MapRule::NoMoreWords => no_texts(stack),
+        MapRule::WrittenSymbolNames => same_texts(stack),
         MapRule::FirstWord | MapRule::NextWord => text_before(stack),
-        MapRule::NoExpressions | MapRule::NoMoreExpressions => {
-            stack.push(Value::Expressions(Vec::new(stack.alloc())))
-        }
+        MapRule::NoExpressions | MapRule::NoMoreExpressions => no_expressions(stack),
         MapRule::FirstExpression | MapRule::NextExpression => expression_before(stack),
-        MapRule::WholeExpression | MapRule::WholeTerm | MapRule::InBrackets => joined(stack),
+        MapRule::WholeExpression | MapRule::WholeTerm | MapRule::InBrackets => whole(stack),
         MapRule::NoMoreTerms | MapRule::NoMoreFactors => no_parts(stack),
         MapRule::PlusTerm => part_before(stack, Operator::Add),
         MapRule::MinusTerm => part_before(stack, Operator::Sub),
@@ -33,28 +25,19 @@ pub(super) fn reduce_map(stack: &mut Stack, rule: MapRule) -> Result<(), Fault> 
         MapRule::DivisionFactor => division_before(stack),
         MapRule::NumberFactor => constant(stack, false),
         MapRule::NegativeNumber => constant(stack, true),
-        MapRule::MinusFactor => Ok(()),
+        MapRule::PlainFactor | MapRule::MinusFactor => same_expression(stack),
         MapRule::NegatedBase => negated(stack),
-        MapRule::ParameterName | MapRule::DivisionName => {
-            let name = stack.text()?;
-            let leaves = Vec::new(stack.alloc());
-            stack.push(Value::Expression(Expression {
-                expr: ExprText::Name(name),
-                leaves,
-            }))
-        }
+        MapRule::ParameterName | MapRule::DivisionName => parameter(stack),
     }
 }
 
 pub(super) fn reduce_subscript(stack: &mut Stack, rule: SubscriptRule) -> Result<(), Fault> {
     match rule {
-        SubscriptRule::NoSubscripts | SubscriptRule::NoMoreSubscripts => {
-            stack.push(Value::Expressions(Vec::new(stack.alloc())))
-        }
+        SubscriptRule::NoSubscripts | SubscriptRule::NoMoreSubscripts => no_expressions(stack),
         SubscriptRule::FirstSubscript | SubscriptRule::NextSubscript => expression_before(stack),
         SubscriptRule::WholeSubscript
         | SubscriptRule::WholeSubscriptTerm
-        | SubscriptRule::SubscriptInBrackets => joined(stack),
+        | SubscriptRule::SubscriptInBrackets => whole(stack),
         SubscriptRule::NoMoreSubscriptTerms | SubscriptRule::NoMoreSubscriptFactors => no_parts(
             stack,
         ),
@@ -64,7 +47,9 @@ pub(super) fn reduce_subscript(stack: &mut Stack, rule: SubscriptRule) -> Result
         SubscriptRule::DivisionSubscriptFactor => division_before(stack),
         SubscriptRule::NumberSubscriptFactor => constant(stack, false),
         SubscriptRule::NegativeSubscriptNumber => constant(stack, true),
-        SubscriptRule::PlainSubscriptFactor | SubscriptRule::MinusSubscriptFactor => Ok(()),
+        SubscriptRule::PlainSubscriptFactor | SubscriptRule::MinusSubscriptFactor => {
+            same_expression(stack)
+        }
         SubscriptRule::NegatedSubscriptBase => negated(stack),
         SubscriptRule::DimensionValue => leaf(stack, LeafKind::Dimension),
         SubscriptRule::SymbolValue => leaf(stack, LeafKind::Symbol),
@@ -72,18 +57,51 @@ pub(super) fn reduce_subscript(stack: &mut Stack, rule: SubscriptRule) -> Result
 }
 
 fn written_map(stack: &mut Stack) -> Result<(), Fault> {
+    let alloc = stack.alloc();
     let parameters = stack.parameters()?;
     let expressions = stack.expressions()?;
-    let map = MapText {
+    let map = map_of(alloc, parameters, expressions)?;
+    stack.push_attr(Attr::Map(map))
+}
+
+fn map_of(
+    alloc: Global,
+    parameters: Parameters,
+    expressions: Seq<Expression>,
+) -> Result<MapText, Fault> {
+    Ok(MapText {
         dims: in_order(parameters.dims),
         syms: in_order(parameters.syms),
-        results: results_of(stack.alloc(), expressions)?,
-    };
-    stack.push(Value::Attr(Attr::Map(map)))
+        results: results_of(alloc, expressions)?,
+    })
+}
+
+fn dimension_names(stack: &mut Stack) -> Result<(), Fault> {
+    let dims = stack.texts()?;
+    let syms = stack.texts()?;
+    stack.push_parameters(Parameters { dims, syms })
+}
+
+fn parameter(stack: &mut Stack) -> Result<(), Fault> {
+    let name = stack.text()?;
+    let leaves = Seq::new(stack.alloc());
+    stack.push_expression(Expression {
+        expr: ExprText::Name(name),
+        leaves,
+    })
+}
+
+fn same_expression(stack: &mut Stack) -> Result<(), Fault> {
+    let expression = stack.expression()?;
+    stack.push_expression(expression)
+}
+
+fn no_expressions(stack: &mut Stack) -> Result<(), Fault> {
+    stack.push_expressions(Seq::new(stack.alloc()))
 }
 
 // The expressions alone, in the order of the text.
-fn results_of(alloc: Global, mut expressions: Vec<Expression>) -> Result<Seq<ExprText>, Fault> {
+fn results_of(alloc: Global, mut expressions: Seq<Expression>) -> Result<Seq<ExprText>, Fault> {
     let mut results = Seq::new(alloc);
     while let Some(expression) = expressions.pop() {
         results.push(expression.expr)?;
@@ -94,22 +112,28 @@ fn results_of(alloc: Global, mut expressions: Vec<Expression>) -> Result<Seq<Exp
 fn expression_before(stack: &mut Stack) -> Result<(), Fault> {
     let expression = stack.expression()?;
     let others = stack.expressions()?;
-    stack.push(Value::Expressions(before(expression, others)?))
+    let expressions = before(expression, others)?;
+    stack.push_expressions(expressions)
 }
 
 fn no_parts(stack: &mut Stack) -> Result<(), Fault> {
-    stack.push(Value::Parts(Vec::new(stack.alloc())))
+    stack.push_parts(Seq::new(stack.alloc()))
 }
 
 fn part_before(stack: &mut Stack, operator: Operator) -> Result<(), Fault> {
     let right = stack.expression()?;
     let others = stack.parts()?;
-    stack.push(Value::Parts(before(Part { operator, right }, others)?))
+    let parts = before(Part { operator, right }, others)?;
+    stack.push_parts(parts)
 }
 
 fn division_before(stack: &mut Stack) -> Result<(), Fault> {
-    let operator = division(&stack.text()?);
-    part_before(stack, operator)
+    let word = stack.text()?;
+    let right = stack.expression()?;
+    let others = stack.parts()?;
+    let operator = division(&word);
+    let parts = before(Part { operator, right }, others)?;
+    stack.push_parts(parts)
 }
 
 fn division(word: &Text) -> Operator {
@@ -121,41 +145,49 @@ fn division(word: &Text) -> Operator {
 }
 
 fn constant(stack: &mut Stack, negative: bool) -> Result<(), Fault> {
-    let value = integer_of(&stack.text()?, negative);
-    let leaves = Vec::new(stack.alloc());
-    stack.push(Value::Expression(Expression {
+    let digits = stack.text()?;
+    let value = integer_of(&digits, negative);
+    let leaves = Seq::new(stack.alloc());
+    stack.push_expression(Expression {
         expr: ExprText::Const(value),
         leaves,
-    }))
+    })
 }
 
 fn negated(stack: &mut Stack) -> Result<(), Fault> {
     let Expression { expr, leaves } = stack.expression()?;
     let held = Held::new(stack.alloc(), expr)?;
-    stack.push(Value::Expression(Expression {
+    stack.push_expression(Expression {
         expr: ExprText::Neg(held),
         leaves,
-    }))
+    })
 }
 
 fn leaf(stack: &mut Stack, kind: LeafKind) -> Result<(), Fault> {
     let name = stack.text()?;
-    let leaves = before(kind, Vec::new(stack.alloc()))?;
-    stack.push(Value::Expression(Expression {
+    let mut leaves = Seq::new(stack.alloc());
+    leaves.push(kind)?;
+    stack.push_expression(Expression {
         expr: ExprText::Name(name),
         leaves,
-    }))
+    })
 }
 
 // The expression on top with the parts under it, joined from the left.
-fn joined(stack: &mut Stack) -> Result<(), Fault> {
+fn whole(stack: &mut Stack) -> Result<(), Fault> {
     let alloc = stack.alloc();
-    let mut whole = stack.expression()?;
-    let mut parts = stack.parts()?;
+    let first = stack.expression()?;
+    let parts = stack.parts()?;
+    let whole = joined(alloc, first, parts)?;
+    stack.push_expression(whole)
+}
+
+// An expression with parts, from the last to the first, joined from the left.
+fn joined(alloc: Global, mut whole: Expression, mut parts: Seq<Part>) -> Result<Expression, Fault> {
     while let Some(part) = parts.pop() {
         whole = join(alloc, whole, part)?;
     }
-    stack.push(Value::Expression(whole))
+    Ok(whole)
 }
 
 fn join(alloc: Global, left: Expression, part: Part) -> Result<Expression, Fault> {
@@ -163,9 +195,9 @@ fn join(alloc: Global, left: Expression, part: Part) -> Result<Expression, Fault
     let Part { operator, right } = part;
     let Expression {
         expr: right,
-        leaves: mut more,
+        leaves: more,
     } = right;
-    leaves.append(&mut more)?;
+    leaves.append(more)?;
     let left = Held::new(alloc, expr)?;
     let right = Held::new(alloc, right)?;
     let expr = match operator {

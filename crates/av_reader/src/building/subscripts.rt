@@ -11,8 +11,8 @@ use std::alloc::Global;
 #[derive(Drop)]
 pub(super) struct Numbering {
     pub(super) map: MapText,
-    pub(super) dims: Vec<Text>,
-    pub(super) syms: Vec<Text>,
+    pub(super) dims: Seq<Text>,
+    pub(super) syms: Seq<Text>,
 }
 
 // The kinds of the leaves to come, the next one last.
@@ -25,7 +25,7 @@ struct Leaves {
 /// The map of subscripts, which stand from the last to the first.
 pub(super) fn place_map(
     alloc: Global,
-    mut subscripts: Vec<Expression>,
+    mut subscripts: Seq<Expression>,
 ) -> Result<Numbering, Fault> {
     let mut numbering = Numbering {
         map: MapText {
@@ -33,11 +33,11 @@ pub(super) fn place_map(
             syms: Seq::new(alloc),
             results: Seq::new(alloc),
         },
-        dims: Vec::new(alloc),
-        syms: Vec::new(alloc),
+        dims: Seq::new(alloc),
+        syms: Seq::new(alloc),
     };
     while let Some(Expression { expr, leaves }) = subscripts.pop() {
-        let mut kinds = leaves;
+        let mut kinds = leaves.into_vec();
         kinds.reverse();
         let mut leaves = Leaves { kinds, numbering };
         let result = numbered(alloc, &mut leaves, &expr)?;
@@ -94,7 +94,7 @@ fn numbered_value(
     letter: &str,
     value: &Text,
     names: &mut Seq<Text>,
-    values: &mut Vec<Text>,
+    values: &mut Seq<Text>,
 ) -> Result<Text, Fault> {
     let name = parameter_name(alloc, letter, names.len())?;
     names.push(name.duplicate(alloc)?)?;
