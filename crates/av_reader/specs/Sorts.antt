@@ -1,5 +1,20 @@
 -- The sorts of values that rows make, and how a row takes values off the stack and puts one in their place.
 use Rattle.std.specs.Prelude.{ℕ, ℤ, List, [], ◌∷◌, Option, Some, None}
+use Rattle.std.specs.Option.{option_map, option_and_then}
+use Rattle.av_tree.specs.declared.table.Symbol.{Symbol}
+use Rattle.av_tree.specs.declared.table.Symbol.TheVariants as symbol
+use Rattle.av_tree.specs.declared.table.Name.{Name}
+use Rattle.av_tree.specs.declared.table.Name.TheVariants as name
+use Rattle.av_tree.specs.declared.table.file.FileName.TheVariants as file_name
+use Rattle.av_tree.specs.declared.table.functions.FunctionName.TheVariants as functions_name
+use Rattle.av_tree.specs.declared.table.regions.RegionName.TheVariants as regions_name
+use Rattle.av_tree.specs.declared.table.types.TypeName.TheVariants as types_name
+use Rattle.av_tree.specs.declared.table.attributes.AttributeName.TheVariants as attributes_name
+use Rattle.av_tree.specs.declared.table.maps.MapName.TheVariants as maps_name
+use Rattle.av_tree.specs.declared.table.values.ValueName.TheVariants as values_name
+use Rattle.av_tree.specs.declared.table.arith.ArithName.TheVariants as arith_name
+use Rattle.av_tree.specs.declared.table.affine.AffineName.TheVariants as affine_name
+use Rattle.av_tree.specs.declared.table.subscripts.SubscriptName.TheVariants as subscripts_name
 use Rattle.av_tree.specs.declared.node.Tree.{Tree}
 use Rattle.av_tree.specs.declared.node.Node.{Node}
 use Rattle.av_tree.specs.declared.node.BodyArg.{BodyArg}
@@ -138,7 +153,98 @@ abbrev pub All : List Sort → Type 0
 All [] = Unit {0}
 All (s ∷ ss) = Of s × All ss
 
--- values of these sorts, the first of them on top, are taken off the stack, and what is made of them is put in their place; none where the values aren't of these sorts
-unfoldable pub replaced : (ss : List Sort) (s : Sort) → (All ss → Of s) → List Value → Option (List Value)
-replaced [] s make under = Some (any s (make tt) ∷ under)
-replaced (t ∷ ss) s make under = elim (on_top t under) [ None ↦ None | Some top ↦ replaced ss s (λ others. make (top.0, others)) top.1 ]
+-- values of these sorts, the first of them on top, are taken off the stack, and what is made of them is put in their place; none where the values aren't of these sorts, or nothing is made of them
+unfoldable pub replaced : (ss : List Sort) (s : Sort) → (All ss → Option (Of s)) → List Value → Option (List Value)
+replaced [] s make under = option_map (λ (made : Of s). any s made ∷ under) (make tt)
+replaced (t ∷ ss) s make under = option_and_then (λ (top : Of t × List Value). replaced ss s (λ others. make (top.0, others)) top.1) (on_top t under)
+
+-- the sort of what a row of a name makes
+abbrev pub sort_of : Name → Sort
+sort_of (name.File file_name.File) = a_tree
+sort_of (name.File file_name.Aliases) = a_entries
+sort_of (name.File file_name.Content) = a_nodes
+sort_of (name.File file_name.TopLevel) = a_onward
+sort_of (name.File file_name.MoreFunctions) = a_nodes
+sort_of (name.File file_name.Function) = a_node
+sort_of (name.Function functions_name.Module) = a_node
+sort_of (name.Function functions_name.OptionalSymbol) = a_entries
+sort_of (name.Function functions_name.NamedFunction) = a_node
+sort_of (name.Function functions_name.OptionalVisibility) = a_entries
+sort_of (name.Function functions_name.FunctionArguments) = a_args
+sort_of (name.Function functions_name.MoreFunctionArguments) = a_args
+sort_of (name.Function functions_name.FunctionArgument) = a_arg
+sort_of (name.Function functions_name.Form) = a_node
+sort_of (name.Region regions_name.Operations) = a_nodes
+sort_of (name.Region regions_name.Operation) = a_onward
+sort_of (name.Region regions_name.AfterTerminator) = a_terminated
+sort_of (name.Region regions_name.TypedValues) = a_typed_values
+sort_of (name.Region regions_name.Region) = a_nodes
+sort_of (name.Type types_name.Type) = a_type
+sort_of (name.Type types_name.MemRef) = a_type
+sort_of (name.Type types_name.Sizes) = a_sizes
+sort_of (name.Type types_name.Types) = a_types
+sort_of (name.Type types_name.MoreTypes) = a_types
+sort_of (name.Type types_name.ResultTypes) = a_types
+sort_of (name.Type types_name.OptionalResultTypes) = a_types
+sort_of (name.Type types_name.Layout) = a_layout
+sort_of (name.Attribute attributes_name.Attribute) = a_attr
+sort_of (name.Attribute attributes_name.NumberType) = a_type
+sort_of (name.Attribute attributes_name.Dictionary) = a_entries
+sort_of (name.Attribute attributes_name.Entries) = a_entries
+sort_of (name.Attribute attributes_name.MoreEntries) = a_entries
+sort_of (name.Attribute attributes_name.Entry) = a_entry
+sort_of (name.Attribute attributes_name.EntryValue) = a_attr
+sort_of (name.Attribute attributes_name.OptionalDictionary) = a_entries
+sort_of (name.Attribute attributes_name.OptionalAttributes) = a_entries
+sort_of (name.Map maps_name.AffineMap) = a_attr
+sort_of (name.Map maps_name.Parameters) = a_parameters
+sort_of (name.Map maps_name.SymbolNames) = a_texts
+sort_of (name.Map maps_name.Words) = a_texts
+sort_of (name.Map maps_name.MoreWords) = a_texts
+sort_of (name.Map maps_name.Expressions) = a_expressions
+sort_of (name.Map maps_name.MoreExpressions) = a_expressions
+sort_of (name.Map maps_name.Expression) = a_expression
+sort_of (name.Map maps_name.Sum) = a_parts
+sort_of (name.Map maps_name.Term) = a_expression
+sort_of (name.Map maps_name.Product) = a_parts
+sort_of (name.Map maps_name.Factor) = a_expression
+sort_of (name.Map maps_name.Negated) = a_expression
+sort_of (name.Map maps_name.Base) = a_expression
+sort_of (name.Value values_name.Value) = a_text
+sort_of (name.Value values_name.ResultNumber) = a_text
+sort_of (name.Value values_name.Values) = a_texts
+sort_of (name.Value values_name.MoreValues) = a_texts
+sort_of (name.Value values_name.Integer) = a_number
+sort_of (name.Value values_name.Results) = a_texts
+sort_of (name.Value values_name.MoreResults) = a_texts
+sort_of (name.Value values_name.ResultCount) = a_text
+sort_of (name.Arith arith_name.Constant) = a_constant
+sort_of (name.Arith arith_name.OptionalOverflow) = a_entries
+sort_of (name.Arith arith_name.MoreOverflowFlags) = a_texts
+sort_of (name.Affine affine_name.LowerBound) = a_map_use
+sort_of (name.Affine affine_name.UpperBound) = a_map_use
+sort_of (name.Affine affine_name.Bound) = a_map_use
+sort_of (name.Affine affine_name.OptionalStep) = a_number
+sort_of (name.Affine affine_name.OptionalIterArgs) = a_carried
+sort_of (name.Affine affine_name.Carried) = a_carried
+sort_of (name.Affine affine_name.MoreCarried) = a_carried
+sort_of (name.Affine affine_name.MapUse) = a_map_use
+sort_of (name.Affine affine_name.MapOperands) = a_texts
+sort_of (name.Affine affine_name.SymbolOperands) = a_texts
+sort_of (name.Subscript subscripts_name.Subscripts) = a_expressions
+sort_of (name.Subscript subscripts_name.MoreSubscripts) = a_expressions
+sort_of (name.Subscript subscripts_name.Subscript) = a_expression
+sort_of (name.Subscript subscripts_name.SubscriptSum) = a_parts
+sort_of (name.Subscript subscripts_name.SubscriptTerm) = a_expression
+sort_of (name.Subscript subscripts_name.SubscriptProduct) = a_parts
+sort_of (name.Subscript subscripts_name.SubscriptFactor) = a_expression
+sort_of (name.Subscript subscripts_name.NegatedSubscript) = a_expression
+sort_of (name.Subscript subscripts_name.SubscriptBase) = a_expression
+
+-- the sorts of the values of symbols: a token whose spelling matters is a text, and a sign or a word has no value
+abbrev pub sorts_of : List Symbol → List Sort
+sorts_of [] = []
+sorts_of (symbol.Sign s ∷ ss) = sorts_of ss
+sorts_of (symbol.Word w ∷ ss) = sorts_of ss
+sorts_of (symbol.Token t ∷ ss) = a_text ∷ sorts_of ss
+sorts_of (symbol.Rows x ∷ ss) = sort_of x ∷ sorts_of ss

@@ -1,11 +1,16 @@
 //! Rows of operations of the Affine dialect.
 
-use super::attributes::{integer_of, same_texts};
-use super::regions::{plain_node, property};
+use super::attributes::same_texts;
+use super::loops::{
+    bound, carry, loop_variable, push_operands, push_property, segment_sizes, step_of,
+    with_terminator,
+};
+use super::numbers::integer_of;
+use super::regions::plain_node;
 use super::stack::{Fault, Stack, before, in_order, text_of};
 use super::subscripts::{Numbering, place_map};
 use super::value::{Carried, CarriedPair, Expression, MapUse};
-use av_affine::{Duplicate, Seq, Text};
+use av_affine::{Seq, Text};
 use av_tree::table::AffineRule;
 use av_tree::{Attr, Body, BodyArg, ExprText, MapText, Named, Node, TypeText};
 use std::alloc::Global;
@@ -174,99 +179,6 @@ fn loop_of(alloc: Global, written: Written, place: u32) -> Result<Node, Fault> {
     let nodes = with_terminator(alloc, in_order(written.nodes))?;
     node.regions.push(Body { args, nodes })?;
     Ok(node)
-}
-
-fn loop_variable(alloc: Global, name: Text) -> Result<BodyArg, Fault> {
-    Ok(BodyArg {
-        ty: TypeText::Scalar(text_of(alloc, b"index")?),
-        name,
-    })
-}
-
-fn step_of(alloc: Global, value: i128) -> Result<Attr, Fault> {
-    Ok(Attr::Number {
-        ty: TypeText::Scalar(text_of(alloc, b"index")?),
-        value,
-    })
-}
-
-// How many operands the bounds have, and how many values are carried.
-fn segment_sizes(alloc: Global, lower: usize, upper: usize, carried: usize) -> Result<Attr, Fault> {
-    let mut numbers = Seq::new(alloc);
-    numbers.push(count(lower))?;
-    numbers.push(count(upper))?;
-    numbers.push(count(carried))?;
-    Ok(Attr::Array {
-        elem: TypeText::Scalar(text_of(alloc, b"i32")?),
-        numbers,
-    })
-}
-
-fn count(n: usize) -> i128 {
-    i128::try_from(n).unwrap_or(i128::MAX)
-}
-
-// Gives a node one more property.
-fn push_property(alloc: Global, node: &mut Node, name: &[u8], value: Attr) -> Result<(), Fault> {
-    node.properties.push(property(alloc, name, value)?)?;
-    Ok(())
-}
-
-// The map and the operands of a bound, whose number it gives.
-fn bound(alloc: Global, node: &mut Node, name: &[u8], map_use: MapUse) -> Result<usize, Fault> {
-    let MapUse { map, operands } = map_use;
-    let number = operands.len();
-    push_operands(node, operands)?;
-    push_property(alloc, node, name, map)?;
-    Ok(number)
-}
-
-// Operands whose types aren't written.
-fn push_operands(node: &mut Node, operands: Seq<Text>) -> Result<(), Fault> {
-    for operand in operands.into_vec() {
-        node.operands.push(operand)?;
-        node.in_types.push(None)?;
-    }
-    Ok(())
-}
-
-// The initial values, the carried arguments and the types of the results; it gives the number of
-// carried values.
-fn carry(
-    alloc: Global,
-    node: &mut Node,
-    args: &mut Seq<BodyArg>,
-    carried: Carried,
-) -> Result<usize, Fault> {
-    let Carried { mut pairs, types } = carried;
-    let number = types.len();
-    for ty in types.into_vec() {
-        let CarriedPair { name, init } = pairs.pop().ok_or(Fault::Misshapen)?;
-        node.operands.push(init)?;
-        node.in_types.push(Some(ty.duplicate(alloc)?))?;
-        node.out_types.push(Some(ty.duplicate(alloc)?))?;
-        args.push(BodyArg { name, ty })?;
-    }
-    Ok(number)
-}
-
-// The operations of a loop, with its terminator where it is left out.
-fn with_terminator(alloc: Global, mut nodes: Seq<Node>) -> Result<Seq<Node>, Fault> {
-    let ended = match nodes.as_slice() {
-        [.., last] => is_terminator(last.name.as_slice()),
-        [] => false,
-    };
-    if !ended {
-        nodes.push(plain_node(alloc, text_of(alloc, b"affine.yield")?, 0))?;
-    }
-    Ok(nodes)
-}
-
-fn is_terminator(name: &[u8]) -> bool {
-    matches!(
-        name,
-        b"func.return" | b"affine.yield" | b"scf.yield" | b"vector.yield"
-    )
 }
 
 // What an access is written with, but for a stored value.

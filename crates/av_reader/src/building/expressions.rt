@@ -1,9 +1,11 @@
 //! Rows of maps and expressions, and of subscripts, which are expressions with values for names.
 
-use super::attributes::{integer_of, no_texts, same_texts, text_before};
+use super::attributes::{no_texts, same_texts, text_before};
+use super::joining::{division, joined, results_of};
+use super::numbers::integer_of;
 use super::stack::{Fault, Stack, before, in_order};
 use super::value::{Expression, LeafKind, Operator, Parameters, Part};
-use av_affine::{Held, Seq, Text};
+use av_affine::{Held, Seq};
 use av_tree::table::{MapRule, SubscriptRule};
 use av_tree::{Attr, ExprText, MapText};
 use std::alloc::Global;
@@ -100,15 +102,6 @@ fn no_expressions(stack: &mut Stack) -> Result<(), Fault> {
     stack.push_expressions(Seq::new(stack.alloc()))
 }
 
-// The expressions alone, in the order of the text.
-fn results_of(alloc: Global, mut expressions: Seq<Expression>) -> Result<Seq<ExprText>, Fault> {
-    let mut results = Seq::new(alloc);
-    while let Some(expression) = expressions.pop() {
-        results.push(expression.expr)?;
-    }
-    Ok(results)
-}
-
 fn expression_before(stack: &mut Stack) -> Result<(), Fault> {
     let expression = stack.expression()?;
     let others = stack.expressions()?;
@@ -134,14 +127,6 @@ fn division_before(stack: &mut Stack) -> Result<(), Fault> {
     let operator = division(&word);
     let parts = before(Part { operator, right }, others)?;
     stack.push_parts(parts)
-}
-
-fn division(word: &Text) -> Operator {
-    match word.as_slice() {
-        b"floordiv" => Operator::Floor,
-        b"ceildiv" => Operator::Ceil,
-        _ => Operator::Mod,
-    }
 }
 
 fn constant(stack: &mut Stack, negative: bool) -> Result<(), Fault> {
@@ -180,33 +165,4 @@ fn whole(stack: &mut Stack) -> Result<(), Fault> {
     let parts = stack.parts()?;
     let whole = joined(alloc, first, parts)?;
     stack.push_expression(whole)
-}
-
-// An expression with parts, from the last to the first, joined from the left.
-fn joined(alloc: Global, mut whole: Expression, mut parts: Seq<Part>) -> Result<Expression, Fault> {
-    while let Some(part) = parts.pop() {
-        whole = join(alloc, whole, part)?;
-    }
-    Ok(whole)
-}
-
-fn join(alloc: Global, left: Expression, part: Part) -> Result<Expression, Fault> {
-    let Expression { expr, mut leaves } = left;
-    let Part { operator, right } = part;
-    let Expression {
-        expr: right,
-        leaves: more,
-    } = right;
-    leaves.append(more)?;
-    let left = Held::new(alloc, expr)?;
-    let right = Held::new(alloc, right)?;
-    let expr = match operator {
-        Operator::Add => ExprText::Add(left, right),
-        Operator::Sub => ExprText::Sub(left, right),
-        Operator::Mul => ExprText::Mul(left, right),
-        Operator::Mod => ExprText::Mod(left, right),
-        Operator::Floor => ExprText::Floor(left, right),
-        Operator::Ceil => ExprText::Ceil(left, right),
-    };
-    Ok(Expression { expr, leaves })
 }

@@ -1,6 +1,10 @@
 //! Rows of operations in regions, and of operations of the Arith dialect.
 
+ghost use Rattle.std.specs.Prelude.{◌≡◌};
+ghost use Rattle.av_reader.specs.Nodes.{plain};
+
 use super::attributes::{no_entries, no_texts, text_before};
+use super::loops::written_types;
 use super::stack::{Fault, Stack, before, in_order, text_of};
 use super::value::{Constant, Onward, Terminated, TypedValues};
 use av_affine::{Duplicate, Seq, Text};
@@ -132,12 +136,14 @@ fn terminator_node(
 ) -> Result<Node, Fault> {
     let mut node = plain_node(alloc, name, place);
     node.operands = in_order(values.values);
-    node.in_types = written(alloc, in_order(values.types))?;
+    node.in_types = written_types(alloc, in_order(values.types).as_slice())?;
     Ok(node)
 }
 
 /// A node of a name and place, all else empty.
-pub(super) fn plain_node(alloc: Global, name: Text, place: u32) -> Node {
+pub(super) fn plain_node(alloc: Global, name: Text, place: u32) -> Node
+    ensures { result ≡ plain name place }
+{
     Node {
         name,
         place,
@@ -149,15 +155,6 @@ pub(super) fn plain_node(alloc: Global, name: Text, place: u32) -> Node {
         in_types: Seq::new(alloc),
         out_types: Seq::new(alloc),
     }
-}
-
-// Types that are written.
-fn written(alloc: Global, types: Seq<TypeText>) -> Result<Seq<Option<TypeText>>, Fault> {
-    let mut list = Seq::new(alloc);
-    for ty in types.into_vec() {
-        list.push(Some(ty))?;
-    }
-    Ok(list)
 }
 
 pub(super) fn reduce_arith(stack: &mut Stack, rule: ArithRule, place: u32) -> Result<(), Fault> {

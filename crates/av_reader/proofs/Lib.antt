@@ -1,0 +1,4 @@
+pub mod Digits
+pub mod Chains
+pub mod NodeParts
+pub mod Replacing

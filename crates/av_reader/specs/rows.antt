@@ -1,0 +1,5 @@
+pub mod TypeRows
+pub mod AttributeRows
+pub mod ValueRows
+pub mod MapRows
+pub mod SubscriptRows

@@ -1,0 +1,215 @@
+//! The parts of loops, and of other operations that are made part by part.
+
+ghost use Rattle.std.specs.Prelude.{◌≡◌, ◌++◌, length, map, reverse, Some, None, IfErr, IfOk, OnOk};
+ghost use Rattle.av_reader.specs.Nodes.{with_operands, with_property};
+ghost use Rattle.av_reader.specs.Loops.{carried_lists, counter, ends_region, has_end, segments, step, terminated, with_bound, with_carried, with_pair};
+
+use super::regions::plain_node;
+use super::stack::{Fault, in_order, text_of};
+use super::value::{Carried, CarriedPair, MapUse};
+use av_affine::{Duplicate, Seq, Text};
+use av_tree::{Attr, BodyArg, Named, Node, TypeText};
+use std::alloc::Global;
+
+/// The argument of a loop's region that counts.
+pub(super) fn loop_variable(alloc: Global, name: Text) -> Result<BodyArg, Fault>
+    ensures ok { IfOk result (λ arg. arg ≡ counter name) }
+    ensures err { IfErr result (λ fault. fault ≡ Fault.NoMemory) }
+{
+    let ty = TypeText::Scalar(text_of(alloc, b"index")?);
+    Ok(BodyArg { name, ty })
+}
+
+/// The step of a loop.
+pub(super) fn step_of(alloc: Global, value: i128) -> Result<Attr, Fault>
+    ensures ok { IfOk result (λ attr. attr ≡ step value) }
+    ensures err { IfErr result (λ fault. fault ≡ Fault.NoMemory) }
+{
+    let ty = TypeText::Scalar(text_of(alloc, b"index")?);
+    Ok(Attr::Number { value, ty })
+}
+
+/// How many operands the bounds have, and how many values are carried.
+pub(super) fn segment_sizes(
+    alloc: Global,
+    lower: usize,
+    upper: usize,
+    carried: usize,
+) -> Result<Attr, Fault>
+    ensures ok { IfOk result (λ attr. attr ≡ segments lower upper carried) }
+    ensures err { IfErr result (λ fault. fault ≡ Fault.NoMemory) }
+{
+    let mut numbers = Seq::new(alloc);
+    numbers.push(lower as i128)?;
+    numbers.push(upper as i128)?;
+    numbers.push(carried as i128)?;
+    let elem = TypeText::Scalar(text_of(alloc, b"i32")?);
+    Ok(Attr::Array { elem, numbers })
+}
+
+/// Gives a node one more property.
+pub(super) fn push_property(
+    alloc: Global,
+    node: &mut Node,
+    name: &[u8],
+    value: Attr,
+) -> Result<(), Fault>
+    ensures ok { OnOk result (node.new ≡ with_property node.old name.now value) }
+    ensures err { IfErr result (λ fault. fault ≡ Fault.NoMemory) }
+{
+    let name = text_of(alloc, name)?;
+    node.properties.push(Named { name, value })?;
+    Ok(())
+}
+
+/// Gives a node the map and the operands of a bound, whose number it returns.
+pub(super) fn bound(
+    alloc: Global,
+    node: &mut Node,
+    name: &[u8],
+    map_use: MapUse,
+) -> Result<usize, Fault>
+    ensures ok { OnOk result (node.new ≡ with_bound node.old name.now map_use) }
+    ensures number { IfOk result (λ number. number ≡ length map_use.operands) }
+    ensures err { IfErr result (λ fault. fault ≡ Fault.NoMemory) }
+{
+    let MapUse { map, operands } = map_use;
+    let number = operands.len();
+    push_operands(node, operands)?;
+    push_property(alloc, node, name, map)?;
+    Ok(number)
+}
+
+/// Gives a node more operands, whose types aren't written.
+pub(super) fn push_operands(node: &mut Node, operands: Seq<Text>) -> Result<(), Fault>
+    ensures ok { OnOk result (node.new ≡ with_operands node.old operands) }
+    ensures err { IfErr result (λ fault. fault ≡ Fault.NoMemory) }
+{
+    let types = unwritten(operands.global(), operands.as_slice())?;
+    node.operands.append(operands)?;
+    node.in_types.append(types)?;
+    Ok(())
+}
+
+// Types that aren't written, one for each operand.
+fn unwritten(alloc: Global, operands: &[Text]) -> Result<Seq<Option<TypeText>>, Fault>
+    ensures ok { IfOk result (λ types. types ≡ map (λ _. None) operands.now) }
+    ensures err { IfErr result (λ fault. fault ≡ Fault.NoMemory) }
+{
+    let mut types = Seq::new(alloc);
+    for _operand in operands {
+        types.push(None)?;
+    }
+    Ok(types)
+}
+
+/// The first values of carried arguments, and the arguments.
+#[derive(Drop)]
+pub(super) struct CarriedLists {
+    pub(super) inits: Seq<Text>,
+    pub(super) args: Seq<BodyArg>,
+}
+
+/// Gives a node carried values, and their arguments to a region; it returns the number of them.
+pub(super) fn carry(
+    alloc: Global,
+    node: &mut Node,
+    args: &mut Seq<BodyArg>,
+    carried: Carried,
+) -> Result<usize, Fault>
+    ensures ok { OnOk result
+        ((lists : _) × (carried_lists (reverse carried.pairs) carried.types ≡ Some lists)
+        × (node.new ≡ with_carried node.old lists.inits carried.types) × (args.new ≡ args.old ++ lists.args)) }
+    ensures number { IfOk result (λ number. number ≡ length carried.types) }
+    ensures err { IfErr result (λ fault. fault ≡ Fault.Misshapen → carried_lists (reverse carried.pairs) carried.types ≡ None) }
+{
+    let Carried { pairs, types } = carried;
+    let number = types.len();
+    let in_types = written_types(alloc, types.as_slice())?;
+    let out_types = written_types(alloc, types.as_slice())?;
+    let lists = paired(alloc, pairs, types)?;
+    node.operands.append(lists.inits)?;
+    node.in_types.append(in_types)?;
+    node.out_types.append(out_types)?;
+    args.append(lists.args)?;
+    Ok(number)
+}
+
+/// The types, all of them written.
+pub(super) fn written_types(
+    alloc: Global,
+    types: &[TypeText],
+) -> Result<Seq<Option<TypeText>>, Fault>
+    ensures ok { IfOk result (λ list. list ≡ map (λ type. Some type) types.now) }
+    ensures err { IfErr result (λ fault. fault ≡ Fault.NoMemory) }
+{
+    let mut list = Seq::new(alloc);
+    for ty in types {
+        list.push(Some(ty.duplicate(alloc)?))?;
+    }
+    Ok(list)
+}
+
+// An argument of each of the types; the pairs stand from the last to the first.
+fn paired(
+    alloc: Global,
+    mut pairs: Seq<CarriedPair>,
+    types: Seq<TypeText>,
+) -> Result<CarriedLists, Fault>
+    ensures ok { IfOk result (λ lists. carried_lists (reverse pairs) types ≡ Some lists) }
+    ensures err { IfErr result (λ fault. fault ≡ Fault.Misshapen → carried_lists (reverse pairs) types ≡ None) }
+{
+    let mut types = in_order(types);
+    let mut lists = CarriedLists {
+        inits: Seq::new(alloc),
+        args: Seq::new(alloc),
+    };
+    while let Some(ty) = types.pop() {
+        let Some(pair) = pairs.pop() else {
+            return Err(Fault::Misshapen);
+        };
+        push_pair(&mut lists, pair, ty)?;
+    }
+    Ok(lists)
+}
+
+fn push_pair(lists: &mut CarriedLists, pair: CarriedPair, ty: TypeText) -> Result<(), Fault>
+    ensures ok { OnOk result (lists.new ≡ with_pair lists.old pair ty) }
+    ensures err { IfErr result (λ fault. fault ≡ Fault.NoMemory) }
+{
+    let CarriedPair { name, init } = pair;
+    lists.inits.push(init)?;
+    lists.args.push(BodyArg { name, ty })?;
+    Ok(())
+}
+
+/// The operations of a loop, with its terminator where it is left out.
+pub(super) fn with_terminator(alloc: Global, mut nodes: Seq<Node>) -> Result<Seq<Node>, Fault>
+    ensures ok { IfOk result (λ ended. ended ≡ terminated nodes) }
+    ensures err { IfErr result (λ fault. fault ≡ Fault.NoMemory) }
+{
+    if is_ended(nodes.as_slice()) {
+        return Ok(nodes);
+    }
+    let name = text_of(alloc, b"affine.yield")?;
+    nodes.push(plain_node(alloc, name, 0))?;
+    Ok(nodes)
+}
+
+fn is_ended(nodes: &[Node]) -> bool
+    ensures { result ≡ has_end nodes.now }
+{
+    match nodes.last() {
+        Some(last) => is_terminator(last.name.as_slice()),
+        None => false,
+    }
+}
+
+fn is_terminator(name: &[u8]) -> bool
+    ensures { result ≡ ends_region name.now }
+{
+    name == b"func.return".as_slice()
+        || name == b"affine.yield".as_slice()
+        || name == b"scf.yield".as_slice()
+        || name == b"vector.yield".as_slice()
+}

@@ -1,0 +1,31 @@
+//! The numbers that decimal digits spell.
+
+ghost use Rattle.std.specs.Prelude.{◌≡◌};
+ghost use Rattle.av_reader.specs.Numbers.{spelled_integer, spelled_number};
+
+use av_affine::Text;
+
+/// The number that decimal digits spell, with a `-` before them or without.
+pub(super) fn integer_of(digits: &Text, negative: bool) -> i128
+    ensures { result ≡ spelled_integer digits.now negative }
+{
+    let value = i128::try_from(decimal(digits.as_slice())).unwrap_or(i128::MAX);
+    if negative {
+        value.saturating_neg()
+    } else {
+        value
+    }
+}
+
+/// The number that decimal digits spell.
+pub(super) fn decimal(digits: &[u8]) -> u128
+    ensures { result ≡ spelled_number digits.now }
+{
+    let mut value: u128 = 0;
+    for digit in digits {
+        value = value
+            .saturating_mul(10)
+            .saturating_add(u128::from(digit.saturating_sub(b'0')));
+    }
+    value
+}
