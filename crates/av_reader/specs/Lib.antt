@@ -4,3 +4,7 @@ pub mod Expressions
 pub mod Nodes
 pub mod Loops
 pub mod rows
+pub mod Accesses
+pub mod Meanings
+pub mod Operations
+pub mod Building

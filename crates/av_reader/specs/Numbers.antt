@@ -10,12 +10,14 @@ number_after before (digit ∷ digits) = number_after (before * 10 + (digit - 48
 abbrev pub number_of : List ℕ → ℕ
 number_of digits = number_after 0 digits
 
--- the number of the digits, at most the greatest of 128 bits; 38 digits, as a token has at most, stay below it
+-- the number of the digits, at most the greatest of 128 bits; that of 38 digits, as a token has at most, is less
 abbrev pub spelled_number : List ℕ → ℕ
 spelled_number digits = min (number_of digits) (2 ^ 128 - 1)
 
--- the same with a sign, where one bit is the sign's
+-- the number with its sign
+abbrev pub signed : Bool → ℕ → ℤ
+signed negative number = if negative then neg_ℤ (pos number) else pos number
+
+-- the number of the digits with its sign, where one bit is the sign's
 abbrev pub spelled_integer : List ℕ → Bool → ℤ
-spelled_integer digits negative =
-    let number = pos (min (number_of digits) (2 ^ 127 - 1)) in
-    if negative then neg_ℤ number else number
+spelled_integer digits negative = signed negative (min (number_of digits) (2 ^ 127 - 1))

@@ -12,7 +12,10 @@ use av_affine::Seq;
 use av_tree::table::{AttributeRule, MapRule, ValueRule};
 use av_tree::{Attr, Named, TypeText};
 
-pub(super) fn reduce(stack: &mut Stack, rule: AttributeRule) -> Result<(), Fault> {
+pub(super) fn reduce(stack: &mut Stack, rule: AttributeRule) -> Result<(), Fault>
+    ensures ok { OnOk result (by_row rule stack.old ≡ Some stack.new) }
+    ensures misshapen { IfErr result (λ fault. fault ≡ Fault.Misshapen → by_row rule stack.old ≡ None) }
+{
     match rule {
         AttributeRule::NumberAttribute => number_attribute(stack),
         AttributeRule::NoNumberType => no_number_type(stack),
@@ -32,7 +35,11 @@ pub(super) fn reduce(stack: &mut Stack, rule: AttributeRule) -> Result<(), Fault
     }
 }
 
-fn number_attribute(stack: &mut Stack) -> Result<(), Fault> {
+#[tactic(auto, using(crate::proofs::Replacing::replacing))]
+fn number_attribute(stack: &mut Stack) -> Result<(), Fault>
+    ensures ok { OnOk result (by_row AttributeRule.NumberAttribute stack.old ≡ Some stack.new) }
+    ensures misshapen { IfErr result (λ fault. fault ≡ Fault.Misshapen → by_row AttributeRule.NumberAttribute stack.old ≡ None) }
+{
     let value = stack.number()?;
     let ty = stack.ty()?;
     stack.push_attr(Attr::Number { value, ty })?;
@@ -111,7 +118,10 @@ fn same_entries(stack: &mut Stack) -> Result<(), Fault>
     Ok(())
 }
 
-pub(super) fn reduce_value(stack: &mut Stack, rule: ValueRule) -> Result<(), Fault> {
+pub(super) fn reduce_value(stack: &mut Stack, rule: ValueRule) -> Result<(), Fault>
+    ensures ok { OnOk result (by_value_row rule stack.old ≡ Some stack.new) }
+    ensures misshapen { IfErr result (λ fault. fault ≡ Fault.Misshapen → by_value_row rule stack.old ≡ None) }
+{
     match rule {
         ValueRule::NamedValue => named_value(stack),
         ValueRule::NoResultNumber => no_text(stack),
@@ -222,14 +232,22 @@ fn counted_results(stack: &mut Stack) -> Result<(), Fault>
     Ok(())
 }
 
-fn plain_integer(stack: &mut Stack) -> Result<(), Fault> {
+#[tactic(auto, using(crate::proofs::Replacing::replacing))]
+fn plain_integer(stack: &mut Stack) -> Result<(), Fault>
+    ensures ok { OnOk result (by_value_row ValueRule.PlainInteger stack.old ≡ Some stack.new) }
+    ensures misshapen { IfErr result (λ fault. fault ≡ Fault.Misshapen → by_value_row ValueRule.PlainInteger stack.old ≡ None) }
+{
     let digits = stack.text()?;
     let value = integer_of(&digits, false);
     stack.push_number(value)?;
     Ok(())
 }
 
-fn negative_integer(stack: &mut Stack) -> Result<(), Fault> {
+#[tactic(auto, using(crate::proofs::Replacing::replacing))]
+fn negative_integer(stack: &mut Stack) -> Result<(), Fault>
+    ensures ok { OnOk result (by_value_row ValueRule.NegativeInteger stack.old ≡ Some stack.new) }
+    ensures misshapen { IfErr result (λ fault. fault ≡ Fault.Misshapen → by_value_row ValueRule.NegativeInteger stack.old ≡ None) }
+{
     let digits = stack.text()?;
     let value = integer_of(&digits, true);
     stack.push_number(value)?;

@@ -1,13 +1,15 @@
 //! The numbers that decimal digits spell.
 
-ghost use Rattle.std.specs.Prelude.{◌≡◌};
-ghost use Rattle.av_reader.specs.Numbers.{spelled_integer, spelled_number};
+ghost use Rattle.std.specs.Prelude.{◌≡◌, ◌≤◌, length};
+ghost use Rattle.std.specs.Str.Parse.{AllDigits, digits_value};
+ghost use Rattle.av_reader.specs.Numbers.{signed, spelled_integer, spelled_number};
 
 use av_affine::Text;
 
 /// The number that decimal digits spell, with a `-` before them or without.
 pub(super) fn integer_of(digits: &Text, negative: bool) -> i128
-    ensures { result ≡ spelled_integer digits.now negative }
+    ensures value { result ≡ spelled_integer digits.now negative }
+    ensures plain { AllDigits 10 digits.now → length digits.now ≤ 38 → result ≡ signed negative (digits_value 10 digits.now) }
 {
     let value = i128::try_from(decimal(digits.as_slice())).unwrap_or(i128::MAX);
     if negative {
@@ -19,7 +21,8 @@ pub(super) fn integer_of(digits: &Text, negative: bool) -> i128
 
 /// The number that decimal digits spell.
 pub(super) fn decimal(digits: &[u8]) -> u128
-    ensures { result ≡ spelled_number digits.now }
+    ensures value { result ≡ spelled_number digits.now }
+    ensures plain { AllDigits 10 digits.now → length digits.now ≤ 38 → result ≡ digits_value 10 digits.now }
 {
     let mut value: u128 = 0;
     for digit in digits {
