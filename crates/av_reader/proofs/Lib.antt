@@ -1,6 +1,7 @@
 pub mod Digits
 pub mod Chains
 pub mod NodeParts
+pub mod Replacing
 pub mod Exits
 pub mod Numbered
 pub mod Faithful

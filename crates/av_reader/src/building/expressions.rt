@@ -1,144 +1,257 @@
 //! Rows of maps and expressions, and of subscripts, which are expressions with values for names.
 
-use super::attributes::text_before;
+ghost use Rattle.std.specs.Prelude.{◌≡◌, Some, None, IfErr, IfOk, OnOk};
+ghost use Rattle.av_reader.specs.rows.MapRows.{by_row, leaf_put, map_of as map_of_rows, number_put, part_put};
+ghost use Rattle.av_reader.specs.rows.SubscriptRows.{by_row as by_subscript_row};
+
+use super::attributes::{no_texts, same_texts, text_before};
 use super::joining::{division, joined, results_of};
 use super::numbers::integer_of;
-use super::stack::{Fault, Stack, in_order};
-use super::value::{Expression, LeafKind, Operator, Parameters, Part, Value};
+use super::stack::{Fault, Stack, before, in_order};
+use super::value::{Expression, LeafKind, Operator, Parameters, Part};
 use av_affine::{Held, Seq};
 use av_tree::table::{MapRule, SubscriptRule};
 use av_tree::{Attr, ExprText, MapText};
+use std::alloc::Global;
 
-pub(super) fn reduce_map(stack: &mut Stack, rule: MapRule) -> Result<(), Fault> {
+pub(super) fn reduce_map(stack: &mut Stack, rule: MapRule) -> Result<(), Fault>
+    ensures ok { OnOk result (by_row rule stack.old ≡ Some stack.new) }
+    ensures misshapen { IfErr result (λ fault. fault ≡ Fault.Misshapen → by_row rule stack.old ≡ None) }
+{
     match rule {
         MapRule::WrittenMap => written_map(stack),
-        MapRule::DimensionNames => {
-            let dims = stack.texts()?;
-            let syms = stack.texts()?;
-            stack.push(Value::Parameters(Parameters { dims, syms }))
-        }
-        MapRule::NoSymbolNames | MapRule::NoWords | MapRule::NoMoreWords => {
-            stack.push(Value::Texts(Vec::new(stack.alloc())))
-        }
-        MapRule::WrittenSymbolNames | MapRule::PlainFactor => Ok(()),
-        MapRule::FirstWord | MapRule::NextWord => text_before(stack),
-        MapRule::NoExpressions | MapRule::NoMoreExpressions => {
-            stack.push(Value::Expressions(Seq::new(stack.alloc())))
-        }
-        MapRule::FirstExpression | MapRule::NextExpression => expression_before(stack),
-        MapRule::WholeExpression | MapRule::WholeTerm | MapRule::InBrackets => whole(stack),
-        MapRule::NoMoreTerms | MapRule::NoMoreFactors => no_parts(stack),
+        MapRule::DimensionNames => dimension_names(stack),
+        MapRule::NoSymbolNames => no_texts(stack),
+        MapRule::WrittenSymbolNames => same_texts(stack),
+        MapRule::NoWords => no_texts(stack),
+        MapRule::FirstWord => text_before(stack),
+        MapRule::NoMoreWords => no_texts(stack),
+        MapRule::NextWord => text_before(stack),
+        MapRule::NoExpressions => no_expressions(stack),
+        MapRule::FirstExpression => expression_before(stack),
+        MapRule::NoMoreExpressions => no_expressions(stack),
+        MapRule::NextExpression => expression_before(stack),
+        MapRule::WholeExpression => whole(stack),
+        MapRule::NoMoreTerms => no_parts(stack),
         MapRule::PlusTerm => part_before(stack, Operator::Add),
         MapRule::MinusTerm => part_before(stack, Operator::Sub),
+        MapRule::WholeTerm => whole(stack),
+        MapRule::NoMoreFactors => no_parts(stack),
         MapRule::TimesFactor => part_before(stack, Operator::Mul),
         MapRule::DivisionFactor => division_before(stack),
         MapRule::NumberFactor => constant(stack, false),
+        MapRule::PlainFactor => same_expression(stack),
+        MapRule::MinusFactor => same_expression(stack),
         MapRule::NegativeNumber => constant(stack, true),
-        MapRule::MinusFactor => Ok(()),
         MapRule::NegatedBase => negated(stack),
-        MapRule::ParameterName | MapRule::DivisionName => {
-            let name = stack.text()?;
-            let leaves = Seq::new(stack.alloc());
-            stack.push(Value::Expression(Expression {
-                expr: ExprText::Name(name),
-                leaves,
-            }))
-        }
+        MapRule::ParameterName => parameter(stack),
+        MapRule::DivisionName => parameter(stack),
+        MapRule::InBrackets => whole(stack),
     }
 }
 
-pub(super) fn reduce_subscript(stack: &mut Stack, rule: SubscriptRule) -> Result<(), Fault> {
+pub(super) fn reduce_subscript(stack: &mut Stack, rule: SubscriptRule) -> Result<(), Fault>
+    ensures ok { OnOk result (by_subscript_row rule stack.old ≡ Some stack.new) }
+    ensures misshapen { IfErr result (λ fault. fault ≡ Fault.Misshapen → by_subscript_row rule stack.old ≡ None) }
+{
     match rule {
-        SubscriptRule::NoSubscripts | SubscriptRule::NoMoreSubscripts => {
-            stack.push(Value::Expressions(Seq::new(stack.alloc())))
-        }
-        SubscriptRule::FirstSubscript | SubscriptRule::NextSubscript => expression_before(stack),
-        SubscriptRule::WholeSubscript
-        | SubscriptRule::WholeSubscriptTerm
-        | SubscriptRule::SubscriptInBrackets => whole(stack),
-        SubscriptRule::NoMoreSubscriptTerms | SubscriptRule::NoMoreSubscriptFactors => no_parts(
-            stack,
-        ),
+        SubscriptRule::NoSubscripts => no_expressions(stack),
+        SubscriptRule::FirstSubscript => expression_before(stack),
+        SubscriptRule::NoMoreSubscripts => no_expressions(stack),
+        SubscriptRule::NextSubscript => expression_before(stack),
+        SubscriptRule::WholeSubscript => whole(stack),
+        SubscriptRule::NoMoreSubscriptTerms => no_parts(stack),
         SubscriptRule::PlusSubscriptTerm => part_before(stack, Operator::Add),
         SubscriptRule::MinusSubscriptTerm => part_before(stack, Operator::Sub),
+        SubscriptRule::WholeSubscriptTerm => whole(stack),
+        SubscriptRule::NoMoreSubscriptFactors => no_parts(stack),
         SubscriptRule::TimesSubscriptFactor => part_before(stack, Operator::Mul),
         SubscriptRule::DivisionSubscriptFactor => division_before(stack),
         SubscriptRule::NumberSubscriptFactor => constant(stack, false),
+        SubscriptRule::PlainSubscriptFactor => same_expression(stack),
+        SubscriptRule::MinusSubscriptFactor => same_expression(stack),
         SubscriptRule::NegativeSubscriptNumber => constant(stack, true),
-        SubscriptRule::PlainSubscriptFactor | SubscriptRule::MinusSubscriptFactor => Ok(()),
         SubscriptRule::NegatedSubscriptBase => negated(stack),
         SubscriptRule::DimensionValue => leaf(stack, LeafKind::Dimension),
         SubscriptRule::SymbolValue => leaf(stack, LeafKind::Symbol),
+        SubscriptRule::SubscriptInBrackets => whole(stack),
     }
 }
 
-fn written_map(stack: &mut Stack) -> Result<(), Fault> {
+#[tactic(auto, using(crate::proofs::Replacing::replacing))]
+fn written_map(stack: &mut Stack) -> Result<(), Fault>
+    ensures ok { OnOk result (by_row MapRule.WrittenMap stack.old ≡ Some stack.new) }
+    ensures misshapen { IfErr result (λ fault. fault ≡ Fault.Misshapen → by_row MapRule.WrittenMap stack.old ≡ None) }
+{
+    let alloc = stack.alloc();
     let parameters = stack.parameters()?;
     let expressions = stack.expressions()?;
-    let map = MapText {
+    let map = map_of(alloc, parameters, expressions)?;
+    stack.push_attr(Attr::Map(map))?;
+    Ok(())
+}
+
+fn map_of(
+    alloc: Global,
+    parameters: Parameters,
+    expressions: Seq<Expression>,
+) -> Result<MapText, Fault>
+    ensures ok { IfOk result (λ map. map ≡ map_of_rows parameters expressions) }
+    ensures err { IfErr result (λ fault. fault ≡ Fault.NoMemory) }
+{
+    Ok(MapText {
         dims: in_order(parameters.dims),
         syms: in_order(parameters.syms),
-        results: results_of(stack.alloc(), expressions)?,
-    };
-    stack.push(Value::Attr(Attr::Map(map)))
+        results: results_of(alloc, expressions)?,
+    })
 }
 
-fn expression_before(stack: &mut Stack) -> Result<(), Fault> {
-    let expression = stack.expression()?;
-    let mut others = stack.expressions()?;
-    others.push(expression)?;
-    stack.push(Value::Expressions(others))
+#[tactic(auto, using(crate::proofs::Replacing::replacing))]
+fn dimension_names(stack: &mut Stack) -> Result<(), Fault>
+    ensures ok { OnOk result (by_row MapRule.DimensionNames stack.old ≡ Some stack.new) }
+    ensures misshapen { IfErr result (λ fault. fault ≡ Fault.Misshapen → by_row MapRule.DimensionNames stack.old ≡ None) }
+{
+    let dims = stack.texts()?;
+    let syms = stack.texts()?;
+    stack.push_parameters(Parameters { dims, syms })?;
+    Ok(())
 }
 
-fn no_parts(stack: &mut Stack) -> Result<(), Fault> {
-    stack.push(Value::Parts(Seq::new(stack.alloc())))
-}
-
-fn part_before(stack: &mut Stack, operator: Operator) -> Result<(), Fault> {
-    let right = stack.expression()?;
-    let mut others = stack.parts()?;
-    others.push(Part { operator, right })?;
-    stack.push(Value::Parts(others))
-}
-
-fn division_before(stack: &mut Stack) -> Result<(), Fault> {
-    let operator = division(&stack.text()?);
-    part_before(stack, operator)
-}
-
-fn constant(stack: &mut Stack, negative: bool) -> Result<(), Fault> {
-    let value = integer_of(&stack.text()?, negative);
+#[tactic(auto, using(crate::proofs::Replacing::replacing))]
+fn parameter(stack: &mut Stack) -> Result<(), Fault>
+    ensures ok { OnOk result (by_row MapRule.ParameterName stack.old ≡ Some stack.new) }
+    ensures misshapen { IfErr result (λ fault. fault ≡ Fault.Misshapen → by_row MapRule.ParameterName stack.old ≡ None) }
+{
+    let name = stack.text()?;
     let leaves = Seq::new(stack.alloc());
-    stack.push(Value::Expression(Expression {
+    stack.push_expression(Expression {
+        expr: ExprText::Name(name),
+        leaves,
+    })?;
+    Ok(())
+}
+
+#[tactic(auto, using(crate::proofs::Replacing::replacing))]
+fn same_expression(stack: &mut Stack) -> Result<(), Fault>
+    ensures ok { OnOk result (by_row MapRule.PlainFactor stack.old ≡ Some stack.new) }
+    ensures misshapen { IfErr result (λ fault. fault ≡ Fault.Misshapen → by_row MapRule.PlainFactor stack.old ≡ None) }
+{
+    let expression = stack.expression()?;
+    stack.push_expression(expression)?;
+    Ok(())
+}
+
+#[tactic(auto, using(crate::proofs::Replacing::replacing))]
+fn no_expressions(stack: &mut Stack) -> Result<(), Fault>
+    ensures ok { OnOk result (by_row MapRule.NoExpressions stack.old ≡ Some stack.new) }
+    ensures misshapen { IfErr result (λ fault. fault ≡ Fault.Misshapen → by_row MapRule.NoExpressions stack.old ≡ None) }
+{
+    stack.push_expressions(Seq::new(stack.alloc()))?;
+    Ok(())
+}
+
+#[tactic(auto, using(crate::proofs::Replacing::replacing))]
+fn expression_before(stack: &mut Stack) -> Result<(), Fault>
+    ensures ok { OnOk result (by_row MapRule.NextExpression stack.old ≡ Some stack.new) }
+    ensures misshapen { IfErr result (λ fault. fault ≡ Fault.Misshapen → by_row MapRule.NextExpression stack.old ≡ None) }
+{
+    let expression = stack.expression()?;
+    let others = stack.expressions()?;
+    let expressions = before(expression, others)?;
+    stack.push_expressions(expressions)?;
+    Ok(())
+}
+
+#[tactic(auto, using(crate::proofs::Replacing::replacing))]
+fn no_parts(stack: &mut Stack) -> Result<(), Fault>
+    ensures ok { OnOk result (by_row MapRule.NoMoreTerms stack.old ≡ Some stack.new) }
+    ensures misshapen { IfErr result (λ fault. fault ≡ Fault.Misshapen → by_row MapRule.NoMoreTerms stack.old ≡ None) }
+{
+    stack.push_parts(Seq::new(stack.alloc()))?;
+    Ok(())
+}
+
+#[tactic(auto, using(crate::proofs::Replacing::replacing))]
+fn part_before(stack: &mut Stack, operator: Operator) -> Result<(), Fault>
+    ensures ok { OnOk result (part_put operator stack.old ≡ Some stack.new) }
+    ensures misshapen { IfErr result (λ fault. fault ≡ Fault.Misshapen → part_put operator stack.old ≡ None) }
+{
+    let right = stack.expression()?;
+    let others = stack.parts()?;
+    let parts = before(Part { operator, right }, others)?;
+    stack.push_parts(parts)?;
+    Ok(())
+}
+
+#[tactic(auto, using(crate::proofs::Replacing::replacing))]
+fn division_before(stack: &mut Stack) -> Result<(), Fault>
+    ensures ok { OnOk result (by_row MapRule.DivisionFactor stack.old ≡ Some stack.new) }
+    ensures misshapen { IfErr result (λ fault. fault ≡ Fault.Misshapen → by_row MapRule.DivisionFactor stack.old ≡ None) }
+{
+    let word = stack.text()?;
+    let right = stack.expression()?;
+    let others = stack.parts()?;
+    let operator = division(&word);
+    let parts = before(Part { operator, right }, others)?;
+    stack.push_parts(parts)?;
+    Ok(())
+}
+
+#[tactic(auto, using(crate::proofs::Replacing::replacing))]
+fn constant(stack: &mut Stack, negative: bool) -> Result<(), Fault>
+    ensures ok { OnOk result (number_put negative stack.old ≡ Some stack.new) }
+    ensures misshapen { IfErr result (λ fault. fault ≡ Fault.Misshapen → number_put negative stack.old ≡ None) }
+{
+    let digits = stack.text()?;
+    let value = integer_of(&digits, negative);
+    let leaves = Seq::new(stack.alloc());
+    stack.push_expression(Expression {
         expr: ExprText::Const(value),
         leaves,
-    }))
+    })?;
+    Ok(())
 }
 
-fn negated(stack: &mut Stack) -> Result<(), Fault> {
-    let Expression { expr, leaves } = stack.expression()?;
-    let held = Held::new(stack.alloc(), expr)?;
-    stack.push(Value::Expression(Expression {
+#[tactic(auto, using(crate::proofs::Replacing::replacing))]
+fn negated(stack: &mut Stack) -> Result<(), Fault>
+    ensures ok { OnOk result (by_row MapRule.NegatedBase stack.old ≡ Some stack.new) }
+    ensures misshapen { IfErr result (λ fault. fault ≡ Fault.Misshapen → by_row MapRule.NegatedBase stack.old ≡ None) }
+{
+    let alloc = stack.alloc();
+    let whole = stack.expression()?;
+    let held = Held::new(alloc, whole.expr)?;
+    stack.push_expression(Expression {
         expr: ExprText::Neg(held),
-        leaves,
-    }))
+        leaves: whole.leaves,
+    })?;
+    Ok(())
 }
 
-fn leaf(stack: &mut Stack, kind: LeafKind) -> Result<(), Fault> {
+#[tactic(auto, using(crate::proofs::Replacing::replacing))]
+fn leaf(stack: &mut Stack, kind: LeafKind) -> Result<(), Fault>
+    ensures ok { OnOk result (leaf_put kind stack.old ≡ Some stack.new) }
+    ensures misshapen { IfErr result (λ fault. fault ≡ Fault.Misshapen → leaf_put kind stack.old ≡ None) }
+{
     let name = stack.text()?;
     let mut leaves = Seq::new(stack.alloc());
     leaves.push(kind)?;
-    stack.push(Value::Expression(Expression {
+    stack.push_expression(Expression {
         expr: ExprText::Name(name),
         leaves,
-    }))
+    })?;
+    Ok(())
 }
 
 // The expression on top with the parts under it, joined from the left.
-fn whole(stack: &mut Stack) -> Result<(), Fault> {
+#[tactic(auto, using(crate::proofs::Replacing::replacing))]
+fn whole(stack: &mut Stack) -> Result<(), Fault>
+    ensures ok { OnOk result (by_row MapRule.WholeTerm stack.old ≡ Some stack.new) }
+    ensures misshapen { IfErr result (λ fault. fault ≡ Fault.Misshapen → by_row MapRule.WholeTerm stack.old ≡ None) }
+{
     let alloc = stack.alloc();
     let first = stack.expression()?;
     let parts = stack.parts()?;
     let whole = joined(alloc, first, parts)?;
-    stack.push(Value::Expression(whole))
+    stack.push_expression(whole)?;
+    Ok(())
 }

@@ -135,8 +135,11 @@ pub(super) fn carry(
     Ok(number)
 }
 
-// The types, all of them written.
-fn written_types(alloc: Global, types: &[TypeText]) -> Result<Seq<Option<TypeText>>, Fault>
+/// The types, all of them written.
+pub(super) fn written_types(
+    alloc: Global,
+    types: &[TypeText],
+) -> Result<Seq<Option<TypeText>>, Fault>
     ensures ok { IfOk result (λ list. list ≡ map (λ type. Some type) types.now) }
     ensures err { IfErr result (λ fault. fault ≡ Fault.NoMemory) }
 {
@@ -156,7 +159,7 @@ fn paired(
     ensures ok { IfOk result (λ lists. carried_lists (reverse pairs) types ≡ Some lists) }
     ensures err { IfErr result (λ fault. fault ≡ Fault.Misshapen → carried_lists (reverse pairs) types ≡ None) }
 {
-    let mut types = in_order(types.into_vec());
+    let mut types = in_order(types);
     let mut lists = CarriedLists {
         inits: Seq::new(alloc),
         args: Seq::new(alloc),

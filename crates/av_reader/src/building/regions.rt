@@ -3,10 +3,10 @@
 ghost use Rattle.std.specs.Prelude.{◌≡◌};
 ghost use Rattle.av_reader.specs.Nodes.{plain};
 
-use super::files::{node_before, only_node, push_node, with_results};
-use super::loops::push_property;
+use super::attributes::{no_entries, no_texts, text_before};
+use super::loops::written_types;
 use super::stack::{Fault, Stack, before, in_order, text_of};
-use super::value::{Terminated, TypedValues, Value};
+use super::value::{Constant, Onward, Terminated, TypedValues};
 use av_affine::{Duplicate, Seq, Text};
 use av_tree::table::{ArithRule, RegionRule};
 use av_tree::{Attr, Named, Node, TypeText};
@@ -14,34 +14,88 @@ use std::alloc::Global;
 
 pub(super) fn reduce(stack: &mut Stack, rule: RegionRule, place: u32) -> Result<(), Fault> {
     match rule {
-        RegionRule::NoMoreOperations => stack.push(Value::Nodes(Vec::new(stack.alloc()))),
+        RegionRule::NoMoreOperations => no_nodes(stack),
         RegionRule::WithResults => with_results(stack, place),
-        RegionRule::WithoutResults | RegionRule::NamedRegion => Ok(()),
-        RegionRule::PlainOperation => node_before(stack),
+        RegionRule::WithoutResults => without_results(stack),
+        RegionRule::NamedRegion => same_nodes(stack),
+        RegionRule::PlainOperation => onward(stack),
         RegionRule::TerminatorOperation => terminator(stack, place),
-        RegionRule::TerminatorWithValues => {
-            let values = stack.typed_values()?;
-            let nodes = stack.nodes()?;
-            stack.push(Value::Terminated(Terminated { values, nodes }))
-        }
-        RegionRule::TerminatorLast => {
-            let nodes = Vec::new(stack.alloc());
-            without_values(stack, nodes)
-        }
-        RegionRule::TerminatorThenOperation => {
-            let nodes = stack.nodes()?;
-            without_values(stack, nodes)
-        }
+        RegionRule::TerminatorWithValues => terminator_with_values(stack),
+        RegionRule::TerminatorLast => terminator_last(stack),
+        RegionRule::TerminatorThenOperation => terminator_then_operation(stack),
         RegionRule::ValuesAndTypes => values_and_types(stack),
     }
 }
 
-fn without_values(stack: &mut Stack, nodes: Vec<Node>) -> Result<(), Fault> {
-    let values = TypedValues {
-        values: Vec::new(stack.alloc()),
-        types: Vec::new(stack.alloc()),
-    };
-    stack.push(Value::Terminated(Terminated { values, nodes }))
+/// No operations.
+pub(super) fn no_nodes(stack: &mut Stack) -> Result<(), Fault> {
+    stack.push_nodes(Seq::new(stack.alloc()))
+}
+
+fn same_nodes(stack: &mut Stack) -> Result<(), Fault> {
+    let nodes = stack.nodes()?;
+    stack.push_nodes(nodes)
+}
+
+/// The names of results for an operation, which then begins with them.
+pub(super) fn with_results(stack: &mut Stack, place: u32) -> Result<(), Fault> {
+    let results = stack.texts()?;
+    let Onward { node, others } = stack.onward()?;
+    let node = named_node(node, in_order(results), place);
+    let nodes = before(node, others)?;
+    stack.push_nodes(nodes)
+}
+
+/// An operation with the names of its results, with which it begins.
+pub(super) fn named_node(mut node: Node, results: Seq<Text>, place: u32) -> Node {
+    node.results = results;
+    node.place = place;
+    node
+}
+
+/// An operation and those after it, as one list.
+pub(super) fn without_results(stack: &mut Stack) -> Result<(), Fault> {
+    let Onward { node, others } = stack.onward()?;
+    let nodes = before(node, others)?;
+    stack.push_nodes(nodes)
+}
+
+/// An operation and those after it.
+pub(super) fn onward(stack: &mut Stack) -> Result<(), Fault> {
+    let node = stack.node()?;
+    let others = stack.nodes()?;
+    stack.push_onward(Onward { node, others })
+}
+
+fn terminator_with_values(stack: &mut Stack) -> Result<(), Fault> {
+    let values = stack.typed_values()?;
+    let nodes = stack.nodes()?;
+    stack.push_terminated(Terminated { values, nodes })
+}
+
+fn terminator_last(stack: &mut Stack) -> Result<(), Fault> {
+    let alloc = stack.alloc();
+    stack.push_terminated(Terminated {
+        values: no_values(alloc),
+        nodes: Seq::new(alloc),
+    })
+}
+
+fn terminator_then_operation(stack: &mut Stack) -> Result<(), Fault> {
+    let alloc = stack.alloc();
+    let Onward { node, others } = stack.onward()?;
+    let nodes = before(node, others)?;
+    stack.push_terminated(Terminated {
+        values: no_values(alloc),
+        nodes,
+    })
+}
+
+fn no_values(alloc: Global) -> TypedValues {
+    TypedValues {
+        values: Seq::new(alloc),
+        types: Seq::new(alloc),
+    }
 }
 
 fn values_and_types(stack: &mut Stack) -> Result<(), Fault> {
@@ -49,26 +103,41 @@ fn values_and_types(stack: &mut Stack) -> Result<(), Fault> {
     let values = stack.texts()?;
     let ty = stack.ty()?;
     let types = stack.types()?;
-    let typed = TypedValues {
-        values: before(value, values)?,
-        types: before(ty, types)?,
-    };
-    stack.push(Value::TypedValues(typed))
+    let values = before(value, values)?;
+    let types = before(ty, types)?;
+    stack.push_typed_values(TypedValues { values, types })
 }
 
 fn terminator(stack: &mut Stack, place: u32) -> Result<(), Fault> {
     let alloc = stack.alloc();
     let word = stack.text()?;
-    let terminated = stack.terminated()?;
-    let name = if word.as_slice() == b"return".as_slice() {
-        text_of(alloc, b"func.return")?
+    let Terminated {
+        values,
+        nodes: others,
+    } = stack.terminated()?;
+    let name = terminator_name(alloc, word)?;
+    let node = terminator_node(alloc, name, values, place)?;
+    stack.push_onward(Onward { node, others })
+}
+
+fn terminator_name(alloc: Global, word: Text) -> Result<Text, Fault> {
+    if word.as_slice() == b"return".as_slice() {
+        text_of(alloc, b"func.return")
     } else {
-        word
-    };
+        Ok(word)
+    }
+}
+
+fn terminator_node(
+    alloc: Global,
+    name: Text,
+    values: TypedValues,
+    place: u32,
+) -> Result<Node, Fault> {
     let mut node = plain_node(alloc, name, place);
-    node.operands = in_order(terminated.values.values);
-    node.in_types = written(alloc, in_order(terminated.values.types))?;
-    stack.push(Value::Nodes(before(node, terminated.nodes)?))
+    node.operands = in_order(values.values);
+    node.in_types = written_types(alloc, in_order(values.types).as_slice())?;
+    Ok(node)
 }
 
 /// A node of a name and place, all else empty.
@@ -88,49 +157,44 @@ pub(super) fn plain_node(alloc: Global, name: Text, place: u32) -> Node
     }
 }
 
-// Types that are written.
-fn written(alloc: Global, types: Seq<TypeText>) -> Result<Seq<Option<TypeText>>, Fault> {
-    let mut list = Seq::new(alloc);
-    for ty in types.into_vec() {
-        list.push(Some(ty))?;
-    }
-    Ok(list)
-}
-
 pub(super) fn reduce_arith(stack: &mut Stack, rule: ArithRule, place: u32) -> Result<(), Fault> {
     match rule {
         ArithRule::ArithConstant => constant(stack, place),
-        ArithRule::NumberConstant => {
-            let value = stack.number()?;
-            let ty = stack.ty()?;
-            stack.push(Value::Attr(Attr::Number { value, ty }))
-        }
+        ArithRule::NumberConstant => number_constant(stack),
         ArithRule::ArithOverflowing => overflowing(stack, place),
-        ArithRule::NoOverflow => stack.push(Value::Entries(Vec::new(stack.alloc()))),
+        ArithRule::NoOverflow => no_entries(stack),
         ArithRule::WrittenOverflow => overflow_flags(stack),
-        ArithRule::NoMoreOverflowFlags => stack.push(Value::Texts(Vec::new(stack.alloc()))),
-        ArithRule::NextOverflowFlag => {
-            let flag = stack.text()?;
-            let others = stack.texts()?;
-            stack.push(Value::Texts(before(flag, others)?))
-        }
+        ArithRule::NoMoreOverflowFlags => no_texts(stack),
+        ArithRule::NextOverflowFlag => text_before(stack),
     }
+}
+
+fn number_constant(stack: &mut Stack) -> Result<(), Fault> {
+    let value = stack.number()?;
+    let ty = stack.ty()?;
+    stack.push_constant(Constant { value, ty })
 }
 
 fn constant(stack: &mut Stack, place: u32) -> Result<(), Fault> {
     let alloc = stack.alloc();
-    let mut node = plain_node(alloc, text_of(alloc, b"arith.constant")?, place);
-    let value = stack.attr()?;
-    node.out_types.push(Some(type_of_number(alloc, &value)?))?;
-    push_property(alloc, &mut node, b"value", value)?;
-    push_node(stack, node)
+    let constant = stack.constant()?;
+    let node = constant_node(alloc, constant, place)?;
+    stack.push_node(node)
 }
 
-fn type_of_number(alloc: Global, number: &Attr) -> Result<TypeText, Fault> {
-    match number {
-        Attr::Number { ty, .. } => Ok(ty.duplicate(alloc)?),
-        _ => Err(Fault::Misshapen),
-    }
+fn constant_node(alloc: Global, constant: Constant, place: u32) -> Result<Node, Fault> {
+    let Constant { value, ty } = constant;
+    let mut node = plain_node(alloc, text_of(alloc, b"arith.constant")?, place);
+    node.out_types.push(Some(ty.duplicate(alloc)?))?;
+    let number = Attr::Number { value, ty };
+    node.properties.push(property(alloc, b"value", number)?)?;
+    Ok(node)
+}
+
+/// A property.
+pub(super) fn property(alloc: Global, name: &[u8], value: Attr) -> Result<Named, Fault> {
+    let name = text_of(alloc, name)?;
+    Ok(Named { name, value })
 }
 
 fn overflowing(stack: &mut Stack, place: u32) -> Result<(), Fault> {
@@ -141,26 +205,34 @@ fn overflowing(stack: &mut Stack, place: u32) -> Result<(), Fault> {
     let properties = stack.entries()?;
     let ty = stack.ty()?;
     let mut node = plain_node(alloc, word, place);
-    node.operands.push(left)?;
-    node.operands.push(right)?;
+    node.operands = pair(alloc, left, right)?;
     node.properties = in_order(properties);
-    node.in_types.push(Some(ty.duplicate(alloc)?))?;
-    node.in_types.push(Some(ty.duplicate(alloc)?))?;
+    node.in_types = same_type_twice(alloc, &ty)?;
     node.out_types.push(Some(ty))?;
-    push_node(stack, node)
+    stack.push_node(node)
+}
+
+fn pair(alloc: Global, left: Text, right: Text) -> Result<Seq<Text>, Fault> {
+    let mut both = Seq::new(alloc);
+    both.push(left)?;
+    both.push(right)?;
+    Ok(both)
+}
+
+fn same_type_twice(alloc: Global, ty: &TypeText) -> Result<Seq<Option<TypeText>>, Fault> {
+    let mut types = Seq::new(alloc);
+    types.push(Some(ty.duplicate(alloc)?))?;
+    types.push(Some(ty.duplicate(alloc)?))?;
+    Ok(types)
 }
 
 fn overflow_flags(stack: &mut Stack) -> Result<(), Fault> {
     let alloc = stack.alloc();
     let first = stack.text()?;
     let others = stack.texts()?;
-    let flags = Attr::Hash {
-        name: text_of(alloc, b"#arith.overflow")?,
-        words: in_order(before(first, others)?),
-    };
-    let entry = Named {
-        name: text_of(alloc, b"overflowFlags")?,
-        value: flags,
-    };
-    stack.push(Value::Entries(before(entry, Vec::new(alloc))?))
+    let words = in_order(before(first, others)?);
+    let name = text_of(alloc, b"#arith.overflow")?;
+    let entry = property(alloc, b"overflowFlags", Attr::Hash { name, words })?;
+    let entries = before(entry, Seq::new(alloc))?;
+    stack.push_entries(entries)
 }

@@ -80,7 +80,7 @@ fn number_one(alloc: Global, leaves: &mut Leaves, subscript: Expression) -> Resu
         expr,
         leaves: kinds,
     } = subscript;
-    leaves.kinds = in_order(kinds.into_vec());
+    leaves.kinds = in_order(kinds);
     number(alloc, leaves, &expr)
 }
 

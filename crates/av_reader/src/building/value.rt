@@ -1,53 +1,73 @@
 //! The values of rows and tokens.
 
-use av_affine::{Seq, Text};
+use av_affine::{Held, Seq, Text};
 use av_tree::{Attr, BodyArg, ExprText, LayoutText, Named, Node, SizeText, Tree, TypeText};
 
-/// A value on the stack. Lists hold their last item first.
+/// A value on the stack. Lists hold their last item first. What isn't a list is held on the heap, so that
+/// a value is small.
 #[derive(Drop)]
 pub(super) enum Value {
-    Tree(Tree),
-    Nodes(Vec<Node>),
-    Terminated(Terminated),
-    TypedValues(TypedValues),
-    Args(Vec<BodyArg>),
     Text(Text),
-    Texts(Vec<Text>),
+    Texts(Seq<Text>),
+    Parameters(Held<Parameters>),
     Number(i128),
-    Type(TypeText),
-    Types(Vec<TypeText>),
-    Sizes(Vec<SizeText>),
-    Layout(Option<LayoutText>),
-    Attr(Attr),
-    Entry(Named),
-    Entries(Vec<Named>),
-    Parameters(Parameters),
-    Expression(Expression),
+    Type(Held<TypeText>),
+    Types(Seq<TypeText>),
+    Sizes(Seq<SizeText>),
+    Layout(Held<Option<LayoutText>>),
+    Constant(Held<Constant>),
+    Attr(Held<Attr>),
+    Entry(Held<Named>),
+    Entries(Seq<Named>),
+    MapUse(Held<MapUse>),
+    Carried(Held<Carried>),
+    Expression(Held<Expression>),
     Expressions(Seq<Expression>),
     Parts(Seq<Part>),
-    MapUse(MapUse),
-    Carried(Carried),
+    Node(Held<Node>),
+    Nodes(Seq<Node>),
+    Onward(Held<Onward>),
+    Terminated(Held<Terminated>),
+    Tree(Held<Tree>),
+    Arg(Held<BodyArg>),
+    Args(Seq<BodyArg>),
+    TypedValues(Held<TypedValues>),
 }
 
-/// What stands after the word of a terminator: its values, and the operations after it.
+/// An operation, and the operations after it from the last to the first.
+#[derive(Drop)]
+pub(super) struct Onward {
+    pub(super) node: Node,
+    pub(super) others: Seq<Node>,
+}
+
+/// What stands after the word of a terminator: its values, and the operations after it from the last
+/// to the first.
 #[derive(Drop)]
 pub(super) struct Terminated {
     pub(super) values: TypedValues,
-    pub(super) nodes: Vec<Node>,
+    pub(super) nodes: Seq<Node>,
 }
 
 /// Values and their types, both from the last to the first.
 #[derive(Drop)]
 pub(super) struct TypedValues {
-    pub(super) values: Vec<Text>,
-    pub(super) types: Vec<TypeText>,
+    pub(super) values: Seq<Text>,
+    pub(super) types: Seq<TypeText>,
+}
+
+/// A number and its type.
+#[derive(Drop)]
+pub(super) struct Constant {
+    pub(super) value: i128,
+    pub(super) ty: TypeText,
 }
 
 /// The names of the parameters of a map, from the last to the first.
 #[derive(Drop)]
 pub(super) struct Parameters {
-    pub(super) dims: Vec<Text>,
-    pub(super) syms: Vec<Text>,
+    pub(super) dims: Seq<Text>,
+    pub(super) syms: Seq<Text>,
 }
 
 /// Whether a value in a subscript stands as a dimension or, in `symbol(..)`, as a symbol.

@@ -1,0 +1,106 @@
+-- The operations that rows make.
+use Rattle.std.specs.Prelude.{ℕ, ℤ, List, [], ◌∷◌, ◌++◌, codes, drop, length, map, reverse, if◌then◌else◌, Option, Some, None, option_map, option_and_then}
+use Rattle.std.specs.Str.{bytes_eq}
+use Rattle.av_tree.specs.declared.node.Node.{Node, out-Node, roll-Node}
+use Rattle.av_tree.specs.declared.node.Body.{Body, roll-Body}
+use Rattle.av_tree.specs.declared.node.BodyArg.{BodyArg}
+use Rattle.av_tree.specs.declared.attribute.Attr.TheVariants as attr
+use Rattle.av_tree.specs.declared.attribute.Named.{Named}
+use Rattle.av_tree.specs.declared.written.TypeText.{TypeText}
+use Rattle.av_tree.specs.declared.written.TypeText.TheVariants as ty
+use Rattle.av_reader.specs.declared.building.value.TypedValues.{TypedValues}
+use Rattle.av_reader.specs.declared.building.value.Constant.{Constant}
+use Rattle.av_reader.specs.declared.building.value.MapUse.{MapUse}
+use Rattle.av_reader.specs.declared.building.value.Carried.{Carried}
+use Rattle.av_reader.specs.declared.building.value.Expression.{Expression}
+use Rattle.av_reader.specs.declared.building.loops.CarriedLists.{CarriedLists}
+use Rattle.av_reader.specs.declared.building.subscripts.Numbering.{Numbering}
+use Rattle.av_reader.specs.Nodes.{plain, entry, with_property, with_operands}
+use Rattle.av_reader.specs.Loops.{carried_lists, counter, segments, step, terminated, with_bound, with_carried}
+use Rattle.av_reader.specs.Accesses.{numbering}
+
+-- an operation with the names of its results, which then begins with them
+abbrev pub named : Node → List (List ℕ) → ℕ → Node
+named node results place = roll-Node (record (out-Node node) { results = results; place = place })
+
+-- a module of these operations, the last one first
+abbrev pub module_of : List Named → List Named → List Node → ℕ → Node
+module_of properties attrs nodes place = roll-Node (record (out-Node (plain (codes "builtin.module") place)) {
+  properties = properties;
+  attrs = attrs;
+  regions = roll-Body (record { args = []; nodes = reverse nodes }) ∷ [];
+})
+
+-- the module of a file, which is put in around all that is no module alone
+abbrev pub root_of : List Node → Node
+root_of [] = module_of [] [] [] 0
+root_of (node ∷ []) = if bytes_eq (out-Node node).name (codes "builtin.module") then node else module_of [] [] (node ∷ []) 0
+root_of (node ∷ next ∷ nodes) = module_of [] [] (node ∷ next ∷ nodes) 0
+
+-- a function of this visibility, symbol, arguments, results, attributes and operations, each list from the last to the first
+abbrev pub function_of : List Named → List ℕ → List BodyArg → List TypeText → List Named → List Node → ℕ → Node
+function_of properties symbol args results attrs nodes place =
+    let type = ty.Func (map (λ (arg : BodyArg). arg.ty) (reverse args)) (reverse results) in
+    roll-Node (record (out-Node (plain (codes "func.func") place)) {
+      properties = properties ++ entry (codes "function_type") (attr.Type type) ∷ entry (codes "sym_name") (attr.Quoted (drop 1 symbol)) ∷ [];
+      attrs = reverse attrs;
+      regions = roll-Body (record { args = reverse args; nodes = reverse nodes }) ∷ [];
+    })
+
+-- a terminator of this word, with its values; the word `return` is short for `func.return`
+abbrev pub terminator_of : List ℕ → TypedValues → ℕ → Node
+terminator_of word values place =
+    let name = if bytes_eq word (codes "return") then codes "func.return" else word in
+    roll-Node (record (out-Node (plain name place)) {
+      operands = reverse values.values;
+      in_types = map (λ (type : TypeText). Some type) (reverse values.types);
+    })
+
+abbrev pub no_values : TypedValues
+no_values = record { values = []; types = [] }
+
+abbrev pub constant_of : Constant → ℕ → Node
+constant_of constant place = roll-Node (record (out-Node (plain (codes "arith.constant") place)) {
+  properties = entry (codes "value") (attr.Number constant.value constant.ty) ∷ [];
+  out_types = Some constant.ty ∷ [];
+})
+
+-- an operation on two operands of one type, with a result of this type
+abbrev pub binary_of : List ℕ → List ℕ → List ℕ → List Named → TypeText → ℕ → Node
+binary_of word left right properties type place = roll-Node (record (out-Node (plain word place)) {
+  operands = left ∷ right ∷ [];
+  properties = reverse properties;
+  in_types = Some type ∷ Some type ∷ [];
+  out_types = Some type ∷ [];
+})
+
+-- a loop of this counter, bounds, step, carried values, operations and attributes, the lists from the last to the first
+abbrev pub loop_of : List ℕ → MapUse → MapUse → ℤ → Carried → List Node → List Named → ℕ → Option Node
+loop_of name lower upper by carried nodes attrs place = option_map (λ (lists : CarriedLists).
+    let bounded = with_bound (with_bound (plain (codes "affine.for") place) (codes "lowerBoundMap") lower) (codes "upperBoundMap") upper in
+    let stepped = with_property bounded (codes "step") (step by) in
+    let sizes = segments (length lower.operands) (length upper.operands) (length carried.types) in
+    let whole = with_property (with_carried stepped lists.inits carried.types) (codes "operandSegmentSizes") sizes in
+    roll-Node (record (out-Node whole) {
+      attrs = reverse attrs;
+      regions = roll-Body (record { args = counter name ∷ lists.args; nodes = terminated (reverse nodes) }) ∷ [];
+    })) (carried_lists (reverse carried.pairs) carried.types)
+
+-- an operation with a buffer of this type as its last operand so far, and then the operands and the map of its subscripts
+abbrev pub access_of : Node → List ℕ → List Expression → List Named → TypeText → Option Node
+access_of node buffer subscripts attrs type = option_map (λ (n : Numbering).
+    let before = roll-Node (record (out-Node node) {
+      operands = (out-Node node).operands ++ buffer ∷ [];
+      in_types = (out-Node node).in_types ++ Some type ∷ [];
+      attrs = reverse attrs;
+    }) in
+    with_property (with_operands (with_operands before n.dims) n.syms) (codes "map") (attr.Map n.map)) (numbering (reverse subscripts))
+
+abbrev pub load_of : List ℕ → List Expression → List Named → TypeText → ℕ → Option Node
+load_of buffer subscripts attrs type place =
+    option_map (λ (node : Node). roll-Node (record (out-Node node) { out_types = None ∷ [] }))
+    (access_of (plain (codes "affine.load") place) buffer subscripts attrs type)
+
+abbrev pub store_of : List ℕ → List ℕ → List Expression → List Named → TypeText → ℕ → Option Node
+store_of value buffer subscripts attrs type place =
+    access_of (with_operands (plain (codes "affine.store") place) (value ∷ [])) buffer subscripts attrs type

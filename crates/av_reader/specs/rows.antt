@@ -1,0 +1,10 @@
+pub mod FileRows
+pub mod FunctionRows
+pub mod RegionRows
+pub mod TypeRows
+pub mod AttributeRows
+pub mod MapRows
+pub mod ValueRows
+pub mod ArithRows
+pub mod AffineRows
+pub mod SubscriptRows

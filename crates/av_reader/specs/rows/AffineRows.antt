@@ -1,0 +1,43 @@
+-- What the rows of operations of the Affine dialect make of the values of their symbols; a loop is not made where carried arguments lack, nor an access where the kinds of its values lack. A list holds its last item first.
+use Rattle.std.specs.Prelude.{ℕ, List, [], ◌∷◌, ◌++◌, codes, false, pos, reverse, Option, Some}
+use Rattle.av_tree.specs.declared.table.affine.AffineRule.{AffineRule}
+use Rattle.av_tree.specs.declared.table.affine.AffineRule.TheVariants as affine_rule
+use Rattle.av_tree.specs.rows.AffineRows.{symbols_of, name_of}
+use Rattle.av_tree.specs.declared.attribute.Attr.TheVariants as attr
+use Rattle.av_tree.specs.declared.written.ExprText.TheVariants as expr
+use Rattle.av_reader.specs.Numbers.{spelled_integer}
+use Rattle.av_reader.specs.Operations.{load_of, loop_of, store_of}
+use Rattle.av_reader.specs.declared.building.value.Value.{Value}
+use Rattle.av_reader.specs.Sorts.{All, Of, replaced, sort_of, sorts_of}
+
+abbrev pub made : (r : AffineRule) → ℕ → All (sorts_of (symbols_of r)) → Option (Of (sort_of (name_of r)))
+made affine_rule.AffineFor place (name, (lower, (upper, (by, (carried, (nodes, (attrs, _))))))) = loop_of name lower upper by carried nodes attrs place
+made affine_rule.AffineLoad place (buffer, (subscripts, (attrs, (type, _)))) = load_of buffer subscripts attrs type place
+made affine_rule.AffineStore place (value, (buffer, (subscripts, (attrs, (type, _))))) = store_of value buffer subscripts attrs type place
+made affine_rule.GreatestOf place (bound, _) = Some bound
+made affine_rule.PlainLowerBound place (bound, _) = Some bound
+made affine_rule.LeastOf place (bound, _) = Some bound
+made affine_rule.PlainUpperBound place (bound, _) = Some bound
+made affine_rule.NumberBound place (number, _) =
+    Some (record { map = attr.Map (record { dims = []; syms = []; results = expr.Const number ∷ [] }); operands = [] })
+made affine_rule.ValueBound place (value, _) =
+    Some (record { map = attr.Map (record { dims = []; syms = codes "s0" ∷ []; results = expr.Name (codes "s0") ∷ [] }); operands = value ∷ [] })
+made affine_rule.MapBound place (bound, _) = Some bound
+made affine_rule.NoStep place _ = Some (pos 1)
+made affine_rule.WrittenStep place (digits, _) = Some (spelled_integer digits false)
+made affine_rule.NoIterArgs place _ = Some (record { pairs = []; types = [] })
+made affine_rule.WrittenIterArgs place (carried, _) = Some carried
+made affine_rule.NoCarried place _ = Some (record { pairs = []; types = [] })
+made affine_rule.FirstCarried place (name, (init, (carried, (type, _)))) =
+    Some (record { pairs = carried.pairs ++ record { name = name; init = init } ∷ []; types = carried.types ++ type ∷ [] })
+made affine_rule.NoMoreCarried place _ = Some (record { pairs = []; types = [] })
+made affine_rule.NextCarried place (name, (init, (carried, (type, _)))) =
+    Some (record { pairs = carried.pairs ++ record { name = name; init = init } ∷ []; types = carried.types ++ type ∷ [] })
+made affine_rule.MapWritten place (map, (operands, _)) = Some (record { map = map; operands = reverse operands })
+made affine_rule.DimensionOperands place (dims, (syms, _)) = Some (syms ++ dims)
+made affine_rule.NoSymbolOperands place _ = Some []
+made affine_rule.WrittenSymbolOperands place (operands, _) = Some operands
+
+-- what a row whose first token stands at a place does to a stack of values
+abbrev pub by_row : AffineRule → ℕ → List Value → Option (List Value)
+by_row r place = replaced (sorts_of (symbols_of r)) (sort_of (name_of r)) (made r place)
