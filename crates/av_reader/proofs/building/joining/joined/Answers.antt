@@ -1,4 +1,4 @@
-use Rattle.std.proofs.Common.{◌≡◌, List, [], reverse, ap, sym, ◌∙◌}
+use Rattle.std.proofs.Common.{List, reverse, ap, sym, ◌∙◌}
 use Rattle.av_reader.specs.declared.building.value.Part.{Part}
 use Rattle.av_reader.specs.Expressions.{joined_left}
 use Rattle.av_reader.proofs.Chains.{next_part, no_parts}

@@ -1,5 +1,4 @@
-use Rattle.std.proofs.Common.{◌≡◌, Some, reverse, rules}
-use Rattle.av_reader.specs.Accesses.{numbering}
+use Rattle.std.proofs.Common.{reverse, rules}
 use Rattle.av_reader.proofs.Faithful.{faithful}
 use Rattle.av_reader.proofs.building.subscripts.place_map.Goals as goal
 
