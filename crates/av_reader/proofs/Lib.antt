@@ -4,3 +4,4 @@ pub mod NodeParts
 pub mod Exits
 pub mod Numbered
 pub mod Faithful
+pub mod Whole
