@@ -1,5 +1,5 @@
 -- The map of an access: one parameter for each value in its subscripts.
-use Rattle.std.specs.Prelude.{ℕ, zero, suc, List, [], ◌∷◌, ◌++◌, length, reverse, codes, decimal, Option, Some, None, option_and_then, option_map}
+use Rattle.std.specs.Prelude.{ℕ, zero, suc, ◌≡◌, ◌+◌, List, [], ◌∷◌, ◌++◌, length, reverse, codes, decimal, Option, Some, None, option_and_then, option_map}
 use Rattle.av_tree.specs.declared.written.ExprText.{ExprText, Name, Const, Neg', Add', Sub', Mul', Mod', Floor', Ceil', end_of-ExprText, more_of-ExprText}
 use Rattle.av_tree.specs.declared.written.ExprText.TheVariants as expr
 use Rattle.av_reader.specs.declared.building.value.LeafKind.{LeafKind}
@@ -71,3 +71,19 @@ numbering subscripts = option_map (λ (p : List ExprText × Leaves). numbering_o
 -- the leaves as the program holds them, the next kind last
 abbrev pub turned : Leaves → Leaves
 turned leaves = record leaves { kinds = reverse leaves.kinds }
+
+-- how many values stand in an expression
+unfoldable pub name_count : ExprText → ℕ
+name_count (Name value) = 1
+name_count (Const z) = 0
+name_count (Neg' s (more_of-ExprText a end_of-ExprText)) = name_count a
+name_count (Add' s (more_of-ExprText a end_of-ExprText) t (more_of-ExprText b end_of-ExprText)) = name_count a + name_count b
+name_count (Sub' s (more_of-ExprText a end_of-ExprText) t (more_of-ExprText b end_of-ExprText)) = name_count a + name_count b
+name_count (Mul' s (more_of-ExprText a end_of-ExprText) t (more_of-ExprText b end_of-ExprText)) = name_count a + name_count b
+name_count (Mod' s (more_of-ExprText a end_of-ExprText) t (more_of-ExprText b end_of-ExprText)) = name_count a + name_count b
+name_count (Floor' s (more_of-ExprText a end_of-ExprText) t (more_of-ExprText b end_of-ExprText)) = name_count a + name_count b
+name_count (Ceil' s (more_of-ExprText a end_of-ExprText) t (more_of-ExprText b end_of-ExprText)) = name_count a + name_count b
+
+-- a subscript has a kind for each of its values
+abbrev pub IsWhole : Expression → Type 0
+IsWhole subscript = name_count subscript.expr ≡ length subscript.leaves

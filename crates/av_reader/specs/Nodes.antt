@@ -1,9 +1,8 @@
 -- Nodes that are made part by part.
-use Rattle.std.specs.Prelude.{ℕ, List, [], ◌∷◌, ◌++◌, map, Option, Some, None}
+use Rattle.std.specs.Prelude.{ℕ, List, [], ◌∷◌, ◌++◌, map, None}
 use Rattle.av_tree.specs.declared.node.Node.{Node, out-Node, roll-Node}
 use Rattle.av_tree.specs.declared.attribute.Attr.{Attr}
 use Rattle.av_tree.specs.declared.attribute.Named.{Named, roll-Named}
-use Rattle.av_tree.specs.declared.written.TypeText.{TypeText}
 
 -- an operation of this name that is written at this place, and nothing else of it
 unfoldable pub plain : List ℕ → ℕ → Node

@@ -1,6 +1,7 @@
 //! Expressions of the parts that they are written with.
 
-ghost use Rattle.std.specs.Prelude.{◌≡◌, map, reverse, IfErr, IfOk};
+ghost use Rattle.std.specs.Prelude.{◌≡◌, map, reverse, All, IfErr, IfOk};
+ghost use Rattle.av_reader.specs.Accesses.{IsWhole};
 ghost use Rattle.av_reader.specs.Expressions.{calculation, division_of, joined_left, with_part};
 
 use super::stack::Fault;
@@ -45,6 +46,7 @@ pub(super) fn joined(
     mut parts: Seq<Part>,
 ) -> Result<Expression, Fault>
     ensures ok { IfOk result (λ e. e ≡ joined_left whole (reverse parts)) }
+    ensures whole { IsWhole whole → All (λ part. IsWhole part.right) (reverse parts) → IfOk result (λ e. IsWhole e) }
     ensures err { IfErr result (λ fault. fault ≡ Fault.NoMemory) }
 {
     while let Some(part) = parts.pop() {

@@ -1,6 +1,6 @@
 //! The parts of loops, and of other operations that are made part by part.
 
-ghost use Rattle.std.specs.Prelude.{◌≡◌, ◌++◌, length, map, reverse, Some, None, IfErr, IfOk, OnOk};
+ghost use Rattle.std.specs.Prelude.{◌≡◌, ◌≤◌, ◌++◌, length, map, reverse, Some, None, IfErr, IfOk, OnOk};
 ghost use Rattle.av_reader.specs.Nodes.{with_operands, with_property};
 ghost use Rattle.av_reader.specs.Loops.{carried_lists, counter, ends_region, has_end, segments, step, terminated, with_bound, with_carried, with_pair};
 
@@ -122,6 +122,7 @@ pub(super) fn carry(
         × (node.new ≡ with_carried node.old lists.inits carried.types) × (args.new ≡ args.old ++ lists.args)) }
     ensures number { IfOk result (λ number. number ≡ length carried.types) }
     ensures err { IfErr result (λ fault. fault ≡ Fault.Misshapen → carried_lists (reverse carried.pairs) carried.types ≡ None) }
+    ensures whole { length carried.types ≤ length carried.pairs → IfErr result (λ fault. fault ≡ Fault.NoMemory) }
 {
     let Carried { pairs, types } = carried;
     let number = types.len();

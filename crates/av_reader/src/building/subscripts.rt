@@ -1,9 +1,9 @@
 //! The map of an access: one parameter for each value in its subscripts, dimensions and symbols each
 //! numbered from the left. Operands are the values of the dimensions and then those of the symbols.
 
-ghost use Rattle.std.specs.Prelude.{◌≡◌, ◌++◌, [], ◌∷◌, decimal, length, reverse, Some, None, IfErr, IfOk, OnOk};
+ghost use Rattle.std.specs.Prelude.{◌≡◌, ◌++◌, [], ◌∷◌, decimal, length, reverse, All, Some, None, IfErr, IfOk, OnOk};
 ghost use Rattle.av_reader.specs.Meanings.{IsFaithful};
-ghost use Rattle.av_reader.specs.Accesses.{first_names, name_of, next_parameter, numbered, numbered_all, numbering, turned};
+ghost use Rattle.av_reader.specs.Accesses.{IsWhole, first_names, name_of, next_parameter, numbered, numbered_all, numbering, turned};
 
 use super::stack::{Fault, in_order, text_of};
 use super::value::{Expression, LeafKind};
@@ -32,6 +32,7 @@ pub(super) struct Leaves {
 pub(super) fn place_map(alloc: Global, subscripts: Seq<Expression>) -> Result<Numbering, Fault>
     ensures ok { IfOk result (λ n. numbering (reverse subscripts) ≡ Some n) }
     ensures err { IfErr result (λ fault. fault ≡ Fault.Misshapen → numbering (reverse subscripts) ≡ None) }
+    ensures whole { All IsWhole (reverse subscripts) → IfErr result (λ fault. fault ≡ Fault.NoMemory) }
     ensures faithful { IfOk result (λ n. IsFaithful n (reverse subscripts)) }
 {
     let mut leaves = Leaves {

@@ -1,7 +1,9 @@
 use Rattle.std.proofs.Common.{ap, ◌∙◌, ◌++◌, List, Some, map}
 use Rattle.av_tree.specs.declared.node.Node.{out-Node, out-roll-Node}
 use Rattle.av_tree.specs.declared.written.TypeText.{TypeText}
+use Rattle.av_reader.proofs.Exits.{only_memory}
 use Rattle.av_reader.proofs.NodeParts.{carried_put}
+use Rattle.av_reader.proofs.Whole.{carried_taken}
 use Rattle.av_reader.proofs.building.loops.carry.Goals as goal
 
 pub returns-clause-ok : goal.returns-clause-ok
@@ -18,3 +20,8 @@ returns-clause-ok c =
           (outs ∙ ap (λ ts. (out-Node c.args.node.now).out_types ++ ts) (c.in_ok-out_types.ensures.ok ∙ ap some c.as_slice-2.ensures))),
       c.in_ok-append-4.ensures.ok,
     )
+
+pub returns-in_err-lists-clause-whole : goal.returns-in_err-lists-clause-whole
+returns-in_err-lists-clause-whole c w =
+    only_memory c.from_residual-in_err-lists.result c.in_err-lists.field-0.0 c.from_residual-in_err-lists.ensures.1
+    (λ f. carried_taken _ c.args.carried.pairs c.args.carried.types w (c.in_err-lists.ensures.err f))

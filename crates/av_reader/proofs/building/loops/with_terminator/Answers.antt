@@ -1,4 +1,4 @@
-use Rattle.std.proofs.Common.{◌≡◌, ap, sym, ◌∙◌, ◌++◌, ◌∷◌, [], List}
+use Rattle.std.proofs.Common.{ap, sym, ◌∙◌, ◌++◌, ◌∷◌, []}
 use Rattle.av_tree.specs.declared.node.Node.{Node}
 use Rattle.av_reader.specs.Nodes.{plain}
 use Rattle.av_reader.proofs.NodeParts.{end_written, end_put}

@@ -1,4 +1,4 @@
-use Rattle.std.proofs.Common.{sym, ◌∙◌}
+use Rattle.std.proofs.Common.{◌∙◌}
 use Rattle.av_reader.proofs.Numbered.{no_names, one_more_name}
 use Rattle.av_reader.proofs.building.subscripts.names.Goals as goal
 

@@ -1,4 +1,4 @@
-use Rattle.std.proofs.Common.{sym, ap, ◌∙◌}
+use Rattle.std.proofs.Common.{sym, ◌∙◌}
 use Rattle.av_reader.specs.Accesses.{turned}
 use Rattle.av_reader.proofs.Exits.{handed_on}
 use Rattle.av_reader.proofs.Numbered.{next_subscript, no_subscript, subscripts_end}
