@@ -6,3 +6,4 @@ pub mod Run
 pub mod OneLevel
 pub mod ScalarRun
 pub mod Examples
+pub mod FlatRun
