@@ -8,3 +8,4 @@ pub mod ScalarRun
 pub mod Examples
 pub mod Marks
 pub mod MarkedRuns
+pub mod FlatRun

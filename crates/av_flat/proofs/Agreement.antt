@@ -1,0 +1,55 @@
+-- Without vectors each kind of operation does the same in both runs.
+use Rattle.std.proofs.Common.{◌≡◌, ℕ, ◌<◌, List, [], ◌∷◌, length, get_or, map, ap, sym, refl, inl, inr, subst}
+use Rattle.std.proofs.Math.Path.{fun_ext}
+use Rattle.std.proofs.Math.ListN.{get_or-eq_default}
+use Rattle.std.proofs.lemmas.Bool.{cases_lt}
+use Rattle.std.specs.List.{All}
+use Rattle.av_ir.specs.declared.ty.Elem.TheVariants.{Index}
+use Rattle.av_ir.specs.declared.ty.Ty.{Ty}
+use Rattle.av_ir.specs.declared.ty.Ty.TheVariants.{Scalar, MemRef, Vector}
+use Rattle.av_ir.specs.declared.module.OpKind.{OpKind}
+use Rattle.av_ir.specs.declared.module.OpKind.TheVariants.{FuncReturn, ArithConstant, ArithBinary, AffineFor, AffineYield, AffineLoad, AffineStore}
+use Rattle.av_ir.specs.declared.module.ValueId.{ValueId}
+use Rattle.av_ir.specs.declared.module.Op.{Op-F, fold-Op}
+use Rattle.av_ir.specs.declared.module.Region.{Region, fold-Region}
+use Rattle.av_ir.specs.Run.{Act, Body, Env, Memory, Perform, Value, after, bind_values, ends, followed, handed_on, op_step, region_step, run_region, types_at, values_at}
+use Rattle.av_ir.specs.OneLevel.{behind}
+use Rattle.av_ir.specs.ScalarRun.{gives, perform, result_width}
+use Rattle.av_ir.specs.FlatRun.{Form, one, binary_in, constant_in, form_of, perform_flat}
+use Rattle.av_flat.specs.Laws.{IsNoVector}
+
+one_element : (scale : ℕ) (ty : Ty) (types : List Ty) → IsNoVector ty → form_of scale (ty ∷ types) ≡ one
+one_element scale (Scalar elem) types h = refl
+one_element scale (MemRef extents elem) types h = refl
+one_element scale (Vector shape elem) types h = absurd h
+
+no_vector_at : (types : List Ty) (k : ℕ) → All IsNoVector types → IsNoVector (get_or types k (Scalar Index))
+no_vector_at types k h = elim (cases_lt k (length types)) [
+  | inl l ↦ h k (Scalar Index) l
+  | inr l ↦ subst IsNoVector (sym (get_or-eq_default types (Scalar Index) l)) tt
+]
+
+form_is : (scale : ℕ) (types : List Ty) (ids : List ValueId) → All IsNoVector types → form_of scale (types_at types ids) ≡ one
+form_is scale types [] h = refl
+form_is scale types (id ∷ ids) h = one_element scale (get_or types id.0 (Scalar Index)) (types_at types ids) (no_vector_at types id.0 h)
+
+module _ (scale : ℕ) (types : List Ty) (none : All IsNoVector types) where
+  same_work : (ids : List ValueId) (kind : OpKind) (number : ℕ) (values : List Value) (bodies : List Body) (memory : Memory)
+      → perform_flat scale (types_at types ids) kind number values bodies memory ≡ perform (types_at types ids) kind number values bodies memory
+  same_work ids FuncReturn number values bodies memory = refl
+  same_work ids (ArithConstant value) number values bodies memory = ap (λ form. gives (constant_in form value ∷ []) memory) (form_is scale types ids none)
+  same_work ids (ArithBinary op) number values bodies memory =
+      ap (λ form. binary_in form (result_width (types_at types ids)) op number values memory) (form_is scale types ids none)
+  same_work ids (AffineFor lower upper step) number values bodies memory = refl
+  same_work ids AffineYield number values bodies memory = refl
+  same_work ids (AffineLoad m) number values bodies memory = refl
+  same_work ids (AffineStore m) number values bodies memory = refl
+
+  same_step : op_step (perform_flat scale) types ≡ op_step perform types
+  same_step = fun_ext (λ op. fun_ext (λ env. fun_ext (λ memory. fun_ext (λ handed.
+      ap (λ given. after 1 (followed given (λ g. ends (record { env = bind_values env op.results g.outcome; memory = g.memory; handed = handed_on g.handed handed }) 0)))
+      (same_work op.results op.kind op.number (values_at env op.operands) (map (λ region. region env) op.regions) memory)))))
+
+  pub same_region : (region : Region) → run_region (perform_flat scale) types region ≡ run_region perform types region
+  unfolding run_region
+  same_region region = ap (λ step. fold-Region Act (Env → Body) step region_step region) same_step

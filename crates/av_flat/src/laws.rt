@@ -1,0 +1,14 @@
+//! What holds of flat runs, for the proofs of callers. These functions do nothing.
+ghost use Rattle.std.specs.Prelude.{ℕ};
+ghost use Rattle.av_flat.specs.Laws.{FlatExamples, ScalarLaw};
+
+/// On a function without vectors the flat run at each scale is the scalar run: in its end, its traps
+/// and its steps.
+pub fn scalar_law()
+    ensures { ScalarLaw }
+{}
+
+/// Small pieces of work on vectors, worked out by hand.
+pub fn worked_examples()
+    ensures { (number : ℕ) → FlatExamples number }
+{}
