@@ -1,7 +1,10 @@
 //! Rows of operations in regions, and of operations of the Arith dialect.
 
-ghost use Rattle.std.specs.Prelude.{◌≡◌};
-ghost use Rattle.av_reader.specs.Nodes.{plain};
+ghost use Rattle.std.specs.Prelude.{◌≡◌, [], ◌∷◌, Some, None, IfErr, IfOk, OnOk};
+ghost use Rattle.av_reader.specs.Nodes.{entry, plain};
+ghost use Rattle.av_reader.specs.Operations.{constant_of, named, no_values as none_of, terminator_of};
+ghost use Rattle.av_reader.specs.rows.ArithRows.{by_row as by_arith_row};
+ghost use Rattle.av_reader.specs.rows.RegionRows.{by_row};
 
 use super::attributes::{no_entries, no_texts, text_before};
 use super::loops::written_types;
@@ -28,84 +31,136 @@ pub(super) fn reduce(stack: &mut Stack, rule: RegionRule, place: u32) -> Result<
 }
 
 /// No operations.
-pub(super) fn no_nodes(stack: &mut Stack) -> Result<(), Fault> {
-    stack.push_nodes(Seq::new(stack.alloc()))
+#[tactic(auto, using(crate::proofs::Replacing::replacing))]
+pub(super) fn no_nodes(stack: &mut Stack) -> Result<(), Fault>
+    ensures ok { OnOk result (by_row RegionRule.NoMoreOperations 0 stack.old ≡ Some stack.new) }
+    ensures misshapen { IfErr result (λ fault. fault ≡ Fault.Misshapen → by_row RegionRule.NoMoreOperations 0 stack.old ≡ None) }
+{
+    stack.push_nodes(Seq::new(stack.alloc()))?;
+    Ok(())
 }
 
-fn same_nodes(stack: &mut Stack) -> Result<(), Fault> {
+#[tactic(auto, using(crate::proofs::Replacing::replacing))]
+fn same_nodes(stack: &mut Stack) -> Result<(), Fault>
+    ensures ok { OnOk result (by_row RegionRule.NamedRegion 0 stack.old ≡ Some stack.new) }
+    ensures misshapen { IfErr result (λ fault. fault ≡ Fault.Misshapen → by_row RegionRule.NamedRegion 0 stack.old ≡ None) }
+{
     let nodes = stack.nodes()?;
-    stack.push_nodes(nodes)
+    stack.push_nodes(nodes)?;
+    Ok(())
 }
 
 /// The names of results for an operation, which then begins with them.
-pub(super) fn with_results(stack: &mut Stack, place: u32) -> Result<(), Fault> {
+#[tactic(auto, using(crate::proofs::Replacing::replacing))]
+pub(super) fn with_results(stack: &mut Stack, place: u32) -> Result<(), Fault>
+    ensures ok { OnOk result (by_row RegionRule.WithResults place stack.old ≡ Some stack.new) }
+    ensures misshapen { IfErr result (λ fault. fault ≡ Fault.Misshapen → by_row RegionRule.WithResults place stack.old ≡ None) }
+{
     let results = stack.texts()?;
-    let Onward { node, others } = stack.onward()?;
-    let node = named_node(node, in_order(results), place);
-    let nodes = before(node, others)?;
-    stack.push_nodes(nodes)
+    let first = stack.onward()?;
+    let node = named_node(first.node, in_order(results), place);
+    let nodes = before(node, first.others)?;
+    stack.push_nodes(nodes)?;
+    Ok(())
 }
 
 /// An operation with the names of its results, with which it begins.
-pub(super) fn named_node(mut node: Node, results: Seq<Text>, place: u32) -> Node {
+pub(super) fn named_node(mut node: Node, results: Seq<Text>, place: u32) -> Node
+    ensures { result ≡ named node results place }
+{
     node.results = results;
     node.place = place;
     node
 }
 
 /// An operation and those after it, as one list.
-pub(super) fn without_results(stack: &mut Stack) -> Result<(), Fault> {
-    let Onward { node, others } = stack.onward()?;
-    let nodes = before(node, others)?;
-    stack.push_nodes(nodes)
+#[tactic(auto, using(crate::proofs::Replacing::replacing))]
+pub(super) fn without_results(stack: &mut Stack) -> Result<(), Fault>
+    ensures ok { OnOk result (by_row RegionRule.WithoutResults 0 stack.old ≡ Some stack.new) }
+    ensures misshapen { IfErr result (λ fault. fault ≡ Fault.Misshapen → by_row RegionRule.WithoutResults 0 stack.old ≡ None) }
+{
+    let first = stack.onward()?;
+    let nodes = before(first.node, first.others)?;
+    stack.push_nodes(nodes)?;
+    Ok(())
 }
 
 /// An operation and those after it.
-pub(super) fn onward(stack: &mut Stack) -> Result<(), Fault> {
+#[tactic(auto, using(crate::proofs::Replacing::replacing))]
+pub(super) fn onward(stack: &mut Stack) -> Result<(), Fault>
+    ensures ok { OnOk result (by_row RegionRule.PlainOperation 0 stack.old ≡ Some stack.new) }
+    ensures misshapen { IfErr result (λ fault. fault ≡ Fault.Misshapen → by_row RegionRule.PlainOperation 0 stack.old ≡ None) }
+{
     let node = stack.node()?;
     let others = stack.nodes()?;
-    stack.push_onward(Onward { node, others })
+    stack.push_onward(Onward { node, others })?;
+    Ok(())
 }
 
-fn terminator_with_values(stack: &mut Stack) -> Result<(), Fault> {
+#[tactic(auto, using(crate::proofs::Replacing::replacing))]
+fn terminator_with_values(stack: &mut Stack) -> Result<(), Fault>
+    ensures ok { OnOk result (by_row RegionRule.TerminatorWithValues 0 stack.old ≡ Some stack.new) }
+    ensures misshapen { IfErr result (λ fault. fault ≡ Fault.Misshapen → by_row RegionRule.TerminatorWithValues 0 stack.old ≡ None) }
+{
     let values = stack.typed_values()?;
     let nodes = stack.nodes()?;
-    stack.push_terminated(Terminated { values, nodes })
+    stack.push_terminated(Terminated { values, nodes })?;
+    Ok(())
 }
 
-fn terminator_last(stack: &mut Stack) -> Result<(), Fault> {
+#[tactic(auto, using(crate::proofs::Replacing::replacing))]
+fn terminator_last(stack: &mut Stack) -> Result<(), Fault>
+    ensures ok { OnOk result (by_row RegionRule.TerminatorLast 0 stack.old ≡ Some stack.new) }
+    ensures misshapen { IfErr result (λ fault. fault ≡ Fault.Misshapen → by_row RegionRule.TerminatorLast 0 stack.old ≡ None) }
+{
     let alloc = stack.alloc();
     stack.push_terminated(Terminated {
         values: no_values(alloc),
         nodes: Seq::new(alloc),
-    })
+    })?;
+    Ok(())
 }
 
-fn terminator_then_operation(stack: &mut Stack) -> Result<(), Fault> {
+#[tactic(auto, using(crate::proofs::Replacing::replacing))]
+fn terminator_then_operation(stack: &mut Stack) -> Result<(), Fault>
+    ensures ok { OnOk result (by_row RegionRule.TerminatorThenOperation 0 stack.old ≡ Some stack.new) }
+    ensures misshapen { IfErr result (λ fault. fault ≡ Fault.Misshapen → by_row RegionRule.TerminatorThenOperation 0 stack.old ≡ None) }
+{
     let alloc = stack.alloc();
-    let Onward { node, others } = stack.onward()?;
-    let nodes = before(node, others)?;
+    let first = stack.onward()?;
+    let nodes = before(first.node, first.others)?;
     stack.push_terminated(Terminated {
         values: no_values(alloc),
         nodes,
-    })
+    })?;
+    Ok(())
 }
 
-fn no_values(alloc: Global) -> TypedValues {
+fn no_values(alloc: Global) -> TypedValues
+    ensures { result ≡ none_of }
+{
     TypedValues {
         values: Seq::new(alloc),
         types: Seq::new(alloc),
     }
 }
 
-fn values_and_types(stack: &mut Stack) -> Result<(), Fault> {
+#[tactic(auto, using(crate::proofs::Replacing::replacing))]
+fn values_and_types(stack: &mut Stack) -> Result<(), Fault>
+    ensures ok { OnOk result (by_row RegionRule.ValuesAndTypes 0 stack.old ≡ Some stack.new) }
+    ensures misshapen { IfErr result (λ fault. fault ≡ Fault.Misshapen → by_row RegionRule.ValuesAndTypes 0 stack.old ≡ None) }
+{
     let value = stack.text()?;
     let values = stack.texts()?;
     let ty = stack.ty()?;
     let types = stack.types()?;
-    let values = before(value, values)?;
-    let types = before(ty, types)?;
-    stack.push_typed_values(TypedValues { values, types })
+    let all_values = before(value, values)?;
+    let all_types = before(ty, types)?;
+    stack.push_typed_values(TypedValues {
+        values: all_values,
+        types: all_types,
+    })?;
+    Ok(())
 }
 
 fn terminator(stack: &mut Stack, place: u32) -> Result<(), Fault> {
