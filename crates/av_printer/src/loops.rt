@@ -4,7 +4,7 @@ ghost use Rattle.av_printer.specs.Pieces.{spelt};
 ghost use Rattle.av_printer.specs.Operations.{head_of, step_of, variable, loop_start, operands_of, bound_if_any, bounds_between, step_behind, carried_pair, carried_in_round, carried_behind, loop_with, loop_line};
 
 use crate::entries::{arguments, map_of, property};
-use crate::generic::{print_known_in_round, print_marks};
+use crate::generic::print_known_in_round;
 use crate::subscripts::print_bound;
 use crate::writer::Writer;
 use av_affine::Text;
