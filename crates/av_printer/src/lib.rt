@@ -4,12 +4,17 @@
 //! first write, so want of memory leaves a sink as it was.
 #![tactic(auto, using(crate::proofs::Steps::steps))]
 
+mod accesses;
 mod attributes;
 mod dictionaries;
+mod entries;
 mod expressions;
 mod form;
+mod functions;
 mod generic;
 mod laws;
+mod lines;
+mod loops;
 mod named;
 mod nodes;
 mod printing;

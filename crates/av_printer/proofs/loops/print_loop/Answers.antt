@@ -6,7 +6,7 @@ use Rattle.av_tree.specs.declared.written.MapText.{MapText}
 use Rattle.av_tree.specs.declared.attribute.Named.{Named}
 use Rattle.av_printer.specs.Pieces.{spelt}
 use Rattle.av_printer.specs.Operations.{head_of, property, map_of, step_of, loop_with, loop_line}
-use Rattle.av_printer.proofs.named.print_loop.Goals as goal
+use Rattle.av_printer.proofs.loops.print_loop.Goals as goal
 
 pub returns : goal.returns
 unfolding loop_line

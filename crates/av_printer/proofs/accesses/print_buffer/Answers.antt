@@ -5,7 +5,7 @@ use Rattle.av_printer.specs.Operations.{subscripts_if_any}
 use Rattle.av_printer.proofs.Steps.{then, from_text}
 use Rattle.av_printer.proofs.ExpressionSteps.{spelt-value}
 use Rattle.av_printer.proofs.OperationSteps.{buffer-some}
-use Rattle.av_printer.proofs.named.print_buffer.Goals as goal
+use Rattle.av_printer.proofs.accesses.print_buffer.Goals as goal
 
 pub returns-in_ok-print_subscripts_of-in-len1-up : goal.returns-in_ok-print_subscripts_of-in-len1-up
 returns-in_ok-print_subscripts_of-in-len1-up c =

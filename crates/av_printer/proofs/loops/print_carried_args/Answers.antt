@@ -1,6 +1,6 @@
 use Rattle.std.proofs.Common.{arith}
 use Rattle.av_printer.proofs.OperationSteps.{pairs-turn}
-use Rattle.av_printer.proofs.named.print_carried_args.Goals as goal
+use Rattle.av_printer.proofs.loops.print_carried_args.Goals as goal
 
 pub loop-i-preserved : goal.loop-i-preserved
 loop-i-preserved c =

@@ -2,7 +2,7 @@ use Rattle.std.proofs.Common.{◌++◌, codes}
 use Rattle.av_printer.specs.Pieces.{plain, space}
 use Rattle.av_printer.specs.Operations.{head_of, access, first_type, stored_value, store_line}
 use Rattle.av_printer.proofs.Steps.{then, from_text, spelt-worded}
-use Rattle.av_printer.proofs.named.print_store.Goals as goal
+use Rattle.av_printer.proofs.accesses.print_store.Goals as goal
 
 pub returns : goal.returns
 unfolding store_line

@@ -3,7 +3,7 @@ use Rattle.av_lex.specs.declared.token.Kind.TheVariants.{Word}
 use Rattle.av_printer.specs.Pieces.{plain}
 use Rattle.av_printer.specs.Operations.{values_behind}
 use Rattle.av_printer.proofs.Steps.{then, from_text, spelt-token}
-use Rattle.av_printer.proofs.named.print_yield.Goals as goal
+use Rattle.av_printer.proofs.lines.print_yield.Goals as goal
 
 pub returns : goal.returns
 returns c =
