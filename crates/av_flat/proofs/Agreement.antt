@@ -1,5 +1,5 @@
 -- Without vectors each kind of operation does the same in both runs.
-use Rattle.std.proofs.Common.{◌≡◌, ℕ, ◌<◌, List, [], ◌∷◌, length, get_or, map, ap, sym, refl, inl, inr, subst}
+use Rattle.std.proofs.Common.{◌≡◌, ◌∙◌, ℕ, suc, ◌<◌, List, [], ◌∷◌, length, get_or, map, ap, sym, refl, inl, inr, subst, arith}
 use Rattle.std.proofs.Math.Path.{fun_ext}
 use Rattle.std.proofs.Math.ListN.{get_or-eq_default}
 use Rattle.std.proofs.lemmas.Bool.{cases_lt}
@@ -12,11 +12,14 @@ use Rattle.av_ir.specs.declared.module.OpKind.TheVariants.{FuncReturn, ArithCons
 use Rattle.av_ir.specs.declared.module.ValueId.{ValueId}
 use Rattle.av_ir.specs.declared.module.Op.{Op-F, fold-Op}
 use Rattle.av_ir.specs.declared.module.Region.{Region, fold-Region}
-use Rattle.av_ir.specs.Run.{Act, Body, Env, Memory, Perform, Value, after, bind_values, ends, followed, handed_on, op_step, region_step, run_region, types_at, values_at}
+use Rattle.av_ir.specs.declared.module.Func.{Func}
+use Rattle.av_ir.specs.declared.run.Args.{Args}
+use Rattle.av_ir.specs.Marks.{in_turn, marked_func}
+use Rattle.av_ir.specs.Run.{word, Act, Body, Env, Memory, Perform, Value, after, bind_values, ends, followed, handed_on, op_step, region_step, run_region, types_at, values_at}
 use Rattle.av_ir.specs.OneLevel.{behind}
-use Rattle.av_ir.specs.ScalarRun.{gives, perform, result_width}
-use Rattle.av_ir.specs.FlatRun.{Form, one, binary_in, constant_in, form_of, perform_flat}
-use Rattle.av_flat.specs.Laws.{IsNoVector}
+use Rattle.av_ir.specs.ScalarRun.{argument_values, ended_with, first_memory, gives, perform, result_width, run_scalar_of}
+use Rattle.av_ir.specs.FlatRun.{Form, one, binary_in, constant_in, form_of, perform_flat, run_flat_of}
+use Rattle.av_flat.specs.Laws.{IsNoVector, HasNoVector}
 
 one_element : (scale : ℕ) (ty : Ty) (types : List Ty) → IsNoVector ty → form_of scale (ty ∷ types) ≡ one
 one_element scale (Scalar elem) types h = refl
@@ -53,3 +56,19 @@ module _ (scale : ℕ) (types : List Ty) (none : All IsNoVector types) where
   pub same_region : (region : Region) → run_region (perform_flat scale) types region ≡ run_region perform types region
   unfolding run_region
   same_region region = ap (λ step. fold-Region Act (Env → Body) step region_step region) same_step
+
+-- a function without vectors runs alike, whatever its scale
+pub flat_is_scalar : (scale : ℕ) (f : Func) (args : Args) → HasNoVector f → run_flat_of scale f args ≡ run_scalar_of f args
+flat_is_scalar scale f args none =
+    ap (λ run. followed (run (λ k. word 0) (argument_values 0 args.list) (first_memory f args)) ended_with) (same_region scale f.values none f.body)
+
+-- the functions of a module with marks run alike
+pub marked_flat_is_scalar : (scale : ℕ) (args : Args) (fs : List Func) (loops : ℕ) → All HasNoVector fs
+    → map (λ f. run_flat_of scale f args) (in_turn (map marked_func fs) loops).made ≡ map (λ f. run_scalar_of f args) (in_turn (map marked_func fs) loops).made
+unfolding in_turn
+marked_flat_is_scalar scale args [] loops none = refl
+marked_flat_is_scalar scale args (f ∷ fs) loops none =
+    ap (λ r. r ∷ map (λ g. run_flat_of scale g args) (in_turn (map marked_func fs) (marked_func f loops).loops).made)
+    (flat_is_scalar scale (marked_func f loops).made args (none 0 f (omega arith)))
+    ∙ ap (λ rs. run_scalar_of (marked_func f loops).made args ∷ rs)
+    (marked_flat_is_scalar scale args fs (marked_func f loops).loops (λ k d below. none (suc k) d (omega arith)))

@@ -1,5 +1,5 @@
 -- What holds of flat runs.
-use Rattle.std.specs.Prelude.{◌≡◌, ℕ, ◌-◌, ◌^◌, List, [], ◌∷◌, true, false}
+use Rattle.std.specs.Prelude.{◌≡◌, ℕ, ◌-◌, ◌^◌, List, [], ◌∷◌, map, true, false}
 use Rattle.std.specs.List.{All}
 use Rattle.av_bits.specs.declared.types.Width.TheVariants.{W8}
 use Rattle.av_bits.specs.declared.types.BinOp.TheVariants.{Addi, Divui}
@@ -11,6 +11,8 @@ use Rattle.av_ir.specs.declared.run.TrapKind.TheVariants.{Divide}
 use Rattle.av_ir.specs.declared.module.Const.TheVariants.{Splat}
 use Rattle.av_ir.specs.declared.module.OpKind.TheVariants.{ArithConstant, ArithBinary}
 use Rattle.av_ir.specs.declared.module.Func.{Func}
+use Rattle.av_ir.specs.declared.module.Module.{Module}
+use Rattle.av_ir.specs.Marks.{marked_of}
 use Rattle.av_ir.specs.Run.{Memory, lanes, traps}
 use Rattle.av_ir.specs.ScalarRun.{gives, run_scalar_of}
 use Rattle.av_ir.specs.FlatRun.{perform_flat, run_flat_of}
@@ -24,6 +26,16 @@ IsNoVector (Vector shape elem) = ⊥
 -- without vectors the scale makes no difference
 abbrev pub ScalarLaw : Type 0
 ScalarLaw = (scale : ℕ) (f : Func) (args : Args) → All IsNoVector f.values → run_flat_of scale f args ≡ run_scalar_of f args
+
+-- no value of the function is a vector
+abbrev pub HasNoVector : Func → Type 0
+HasNoVector f = All IsNoVector f.values
+
+-- with its loops and accesses marked, a module without vectors runs at each scale as it did one element at a time
+abbrev pub MarkedLaw : Type 0
+MarkedLaw =
+    (scale : ℕ) (m : Module) (args : Args) → All HasNoVector m.funcs
+    → map (λ f. run_flat_of scale f args) (marked_of m).funcs ≡ map (λ f. run_scalar_of f args) m.funcs
 
 -- the types of 3 lanes of 8 bits, and of 2 times the scale
 abbrev pub three : Ty

@@ -1,11 +1,17 @@
 //! What holds of flat runs, for the proofs of callers. These functions do nothing.
 ghost use Rattle.std.specs.Prelude.{ℕ};
-ghost use Rattle.av_flat.specs.Laws.{FlatExamples, ScalarLaw};
+ghost use Rattle.av_flat.specs.Laws.{FlatExamples, MarkedLaw, ScalarLaw};
 
 /// On a function without vectors the flat run at each scale is the scalar run: in its end, its traps
 /// and its steps.
 pub fn scalar_law()
     ensures { ScalarLaw }
+{}
+
+/// Where a module has no vectors, the flat run at each scale of the module with its loops and accesses
+/// marked is the scalar run of the module: in its end, its traps and its steps.
+pub fn marked_law()
+    ensures { MarkedLaw }
 {}
 
 /// Small pieces of work on vectors, worked out by hand.
