@@ -10,6 +10,8 @@ mod operations;
 mod running;
 mod scalar;
 mod testing;
+#[cfg(test)]
+mod tests;
 mod words;
 
 pub use scalar::run_scalar;
