@@ -317,3 +317,35 @@ fn traps_at_the_access(rt: HostRuntime) -> Result<(), Fail> {
     assert!(rt; matches!(end, Some(Err(RunStop::Trap(TrapKind::IndexRange, 2)))));
     Ok(())
 }
+
+// A load of A[i + by] for i from 0 to below 1. Values: A, i, a.
+fn one_load(alloc: Global, by: i128) -> Result<Module, AllocError> {
+    let mut body = Seq::new(alloc);
+    body.push(op(
+        alloc,
+        3,
+        OpKind::AffineLoad(shifted(alloc, by)?),
+        &[0, 1],
+        &[2],
+    )?)?;
+    body.push(op(alloc, 4, OpKind::AffineYield, &[], &[])?)?;
+    let mut ops = Seq::new(alloc);
+    ops.push(looped(alloc, 2, (0, 1), &[1], body, &[], &[])?)?;
+    ops.push(op(alloc, 5, OpKind::FuncReturn, &[], &[])?)?;
+    module(alloc, types(alloc, 1)?, &[0], ops)
+}
+
+#[test]
+fn a_subscript_has_a_range(rt: HostRuntime) -> Result<(), Fail> {
+    let alloc = rt.alloc();
+    let most = one_load(alloc, 1 << 47)?;
+    let end = run(alloc, &most, buffers(alloc, &[&[1]])?, 100);
+    assert!(rt; matches!(end, Some(Err(RunStop::Trap(TrapKind::OutOfBounds, 3)))));
+    let beyond = one_load(alloc, (1 << 47) + 1)?;
+    let end = run(alloc, &beyond, buffers(alloc, &[&[1]])?, 100);
+    assert!(rt; matches!(end, Some(Err(RunStop::Trap(TrapKind::IndexRange, 3)))));
+    let below = one_load(alloc, -(1 << 47) - 1)?;
+    let end = run(alloc, &below, buffers(alloc, &[&[1]])?, 100);
+    assert!(rt; matches!(end, Some(Err(RunStop::Trap(TrapKind::IndexRange, 3)))));
+    Ok(())
+}
