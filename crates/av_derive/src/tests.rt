@@ -1,4 +1,5 @@
 //! Derivations within small limits.
+ghost use Rattle.std.specs.Prelude.{◌<◌, ◌^◌, length};
 
 use crate::{Limits, Refused, Stop, classes_of, derive};
 use av_lex::lex;
@@ -14,6 +15,9 @@ fn stop_of(
     signs: u32,
 ) -> Result<Option<(Stop, usize)>, Fail> {
     let bytes = text.as_bytes();
+    if bytes.len() > 1_048_576 {
+        return Ok(Some((Stop::NoMemory, 0)));
+    }
     let Ok(tokens) = lex(alloc, bytes) else {
         return Ok(Some((Stop::Wrong, usize::MAX)));
     };
