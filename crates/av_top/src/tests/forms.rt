@@ -135,9 +135,11 @@ fn no_prefix_is_taken(rt: HostRuntime) -> Result<(), Fail> {
     // The last line end may be missing.
     for length in 0..ADD.len().saturating_sub(1) {
         let prefix = ADD.as_bytes().get(0..length).unwrap_or(&[]);
-        match answer(alloc, Request { size: 4 }, prefix) {
-            Err(refusal) => assert_eq!(rt; refusal, Refusal::NotBuilt, "{length}"),
-            Ok(_) => assert_eq!(rt; length, ADD.len(), "is taken"),
+        if prefix.len() <= 1_048_576 {
+            match answer(alloc, Request { size: 4 }, prefix) {
+                Err(refusal) => assert_eq!(rt; refusal, Refusal::NotBuilt, "{length}"),
+                Ok(_) => assert_eq!(rt; length, ADD.len(), "is taken"),
+            }
         }
     }
     Ok(())
