@@ -1,3 +1,5 @@
 pub mod Behind
 pub mod Bindings
 pub mod TextVariants
+pub mod Outcomes
+pub mod Walks

@@ -9,14 +9,14 @@ ghost use Rattle.av_verify.specs.Types.{is_within_limits};
 use super::entries::{entry, has_good_entries, has_needed};
 use super::form::gives_nothing;
 use super::loops::{are_new, end_with};
-use super::operations::{NO_MARKS, region};
+use super::operations::{NO_MARKS, only_region};
 use super::refusal::{Code, VerifyRefusal, ask_all, asks};
 use super::results::has_no_result;
 use super::rows::{Row, row_of};
 use super::scope::{Role, Scope, new_scope, take_number};
 use super::types::{is_type, is_within_limits};
 use av_affine::{No, Seq, duplicate_all};
-use av_ir::{Func, Module, Region};
+use av_ir::{Func, Module};
 use av_shapes::Shape;
 use av_tree::{Attr, BodyArg, Node, Tree, TypeText};
 use std::alloc::Global;
@@ -130,7 +130,12 @@ fn function(scope: &mut Scope, node: &Node, mode: &Mode) -> Result<Func, VerifyR
     let number = take_number(&mut scope.owners, 0)?;
     let new = are_new(scope.alloc, &scope.names, node.regions.as_slice())?;
     ask_function(node, new, number)?;
-    let body = function_region(scope, node, most_regions(mode))?;
+    let body = only_region(
+        scope,
+        node.regions.as_slice(),
+        Role::Plain,
+        most_regions(mode),
+    )?;
     Ok(Func {
         name: Seq::from_slice(scope.alloc, name_of(node))?,
         number,
@@ -139,16 +144,6 @@ fn function(scope: &mut Scope, node: &Node, mode: &Mode) -> Result<Func, VerifyR
         body,
         marks: NO_MARKS,
     })
-}
-
-fn function_region(scope: &mut Scope, node: &Node, room: u32) -> Result<Region, VerifyRefusal> {
-    match node.regions.as_slice() {
-        [body] => region(scope, body, Role::Plain, room),
-        _ => Ok(Region {
-            args: Seq::new(scope.alloc),
-            ops: Seq::new(scope.alloc),
-        }),
-    }
 }
 
 fn ask_function(node: &Node, new: bool, number: No) -> Result<(), VerifyRefusal> {
