@@ -3,11 +3,15 @@ use Rattle.std.specs.Prelude.{◌≡◌, ℕ, zero, suc, ◌+◌, ◌==◌, Bool
 use Rattle.av_ir.specs.declared.ty.Elem.TheVariants.{Index}
 use Rattle.av_ir.specs.declared.ty.Ty.TheVariants as ty
 use Rattle.av_ir.specs.declared.module.ValueId.{ValueId}
+use Rattle.av_ir.specs.declared.module.Module as ir
+use Rattle.av_ir.specs.declared.module.Func.{Func}
 use Rattle.av_ir.specs.declared.module.Op.{Op}
 use Rattle.av_ir.specs.declared.module.Region.{Region, roll-Region}
 use Rattle.av_tree.specs.declared.node.Node.{Node, out-Node}
 use Rattle.av_tree.specs.declared.node.Body.{Body, out-Body}
 use Rattle.av_tree.specs.declared.node.BodyArg.{BodyArg}
+use Rattle.av_tree.specs.declared.node.Tree.{Tree}
+use Rattle.av_verify.specs.declared.module.Mode.{Mode}
 use Rattle.av_verify.specs.declared.refusal.Code.{Code}
 use Rattle.av_verify.specs.declared.refusal.Code.TheVariants as code
 use Rattle.av_verify.specs.declared.refusal.VerifyRefusal.{VerifyRefusal}
@@ -22,9 +26,10 @@ use Rattle.av_verify.specs.Arith.{operands_of, constant_rules, constant_op, cons
 use Rattle.av_verify.specs.Codes.{first_failing, number_of_code}
 use Rattle.av_verify.specs.Ends.{end_rules, end_op}
 use Rattle.av_verify.specs.Loops.{are_new, loop_rules, loop_op}
+use Rattle.av_verify.specs.Modules.{function_rules, func_of, module_rules, most_regions, only_function}
 use Rattle.av_verify.specs.Results.{result_name}
 use Rattle.av_verify.specs.Rows.{row_of}
-use Rattle.av_verify.specs.Scopes.{defined}
+use Rattle.av_verify.specs.Scopes.{defined, first_scope}
 use Rattle.av_verify.specs.Types.{type_of}
 
 -- ---- outcomes
@@ -149,3 +154,23 @@ unfoldable pub loop_of : ℕ → ℕ → Scope → Node → Outcome (Step Op)
 loop_of zero number scope node = loop_with false (λ inner bodies. fails number (number_of_code code.Limit)) number scope node
 loop_of (suc room) number scope node =
     loop_with true (only_region (region_with (operation_with (loop_of room)) Dimension)) number scope node
+
+-- ---- functions and modules
+-- a function in a module, in whose region so many more regions may be opened
+unfoldable pub function_of : ℕ → Scope → Node → Outcome (Step Func)
+function_of room scope node =
+    checked (length scope.owners) (first_failing (function_rules (are_new scope.names [] (out-Node node).regions) node))
+    (next (only_region (region_with (operation_with (loop_of room)) Plain) (numbered scope) (out-Node node).regions)
+    (λ s. step (func_of node (length scope.owners) s.scope.values s.given) s.scope))
+
+-- a module with its one function
+unfoldable pub module_of : Mode → Option Node → Outcome ir.Module
+module_of mode (Some node) =
+    next (function_of (most_regions mode) (numbered first_scope) node) (λ s. gives (record { funcs = s.given ∷ []; owners = s.scope.owners }))
+module_of mode None = fails 0 (number_of_code code.Place)
+
+-- the module of a tree: the rules of the module itself are asked first, at its number 0, and then those of each
+-- operation in the order of the text; a code is asked only where all smaller codes hold there. So what fails is the
+-- first operation of the text at which a rule fails, where all operations before it are elaborated, and its smallest code.
+unfoldable pub elaborated : Tree → Mode → Outcome ir.Module
+elaborated tree mode = checked 0 (first_failing (module_rules tree.root mode)) (module_of mode (only_function tree.root))

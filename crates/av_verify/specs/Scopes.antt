@@ -10,6 +10,10 @@ use Rattle.av_verify.specs.declared.scope.Scope.{Scope}
 use Rattle.av_verify.specs.Names.{bound}
 use Rattle.av_verify.specs.Types.{agrees}
 
+-- nothing yet
+abbrev pub first_scope : Scope
+first_scope = record { names = []; values = []; roles = []; owners = [] }
+
 -- values are numbered in order
 abbrev pub next_value : Scope → ValueId
 next_value scope = record { 0 = length scope.values }
