@@ -1,12 +1,12 @@
 -- How an operation that is asked its rules ends.
-use Rattle.std.proofs.Common.{◌≡◌, ◌∙◌, ℕ, Option, Some, None, refl, ap, sym, subst}
+use Rattle.std.proofs.Common.{◌≡◌, ℕ, Option, Some, None, refl, ap, sym, subst}
 use Rattle.std.specs.Prelude.{Result, Ok, Err, OnOk}
 use Rattle.av_verify.specs.declared.refusal.Code.{Code}
 use Rattle.av_verify.specs.declared.refusal.VerifyRefusal.{VerifyRefusal}
 use Rattle.av_verify.specs.declared.refusal.VerifyRefusal.TheVariants.{Bad, NoMemory}
 use Rattle.av_verify.specs.declared.scope.Scope.{Scope}
-use Rattle.av_verify.specs.Codes.{Asked, Refuses, number_of_code}
-use Rattle.av_verify.specs.Elaboration.{Outcome, gives, fails, checked, next, step, Step, Elaborates, IsRefused}
+use Rattle.av_verify.specs.Codes.{Asked, Refuses}
+use Rattle.av_verify.specs.Elaboration.{Outcome, fails, checked, next, step, Elaborates, IsRefused}
 
 pub refuses : {A : Type 0} (number : ℕ) (failing : Option Code) (refusal : VerifyRefusal) (outcome : Outcome A)
     → Refuses number failing refusal → IsRefused (checked number failing outcome) refusal

@@ -1,5 +1,5 @@
 -- One step of the walk, from what its parts give.
-use Rattle.std.proofs.Common.{◌≡◌, ◌∙◌, ℕ, suc, ◌+◌, arith, Bool, true, List, [], ◌∷◌, ◌++◌, Some, None, length, take, refl, ap, sym, subst}
+use Rattle.std.proofs.Common.{◌≡◌, ◌∙◌, ℕ, suc, ◌+◌, arith, Bool, true, List, [], ◌∷◌, ◌++◌, Some, None, length, take, ap, sym, subst}
 use Rattle.av_ir.specs.declared.module.Op.{Op}
 use Rattle.av_ir.specs.declared.module.ValueId.{ValueId}
 use Rattle.av_ir.specs.declared.module.Region.{Region}

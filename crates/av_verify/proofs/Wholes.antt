@@ -1,9 +1,6 @@
 -- Functions and modules, from what their parts give.
 use Rattle.std.specs.Prelude.{◌==◌, codes}
-use Rattle.std.proofs.Common.{◌≡◌, ◌∙◌, ℕ, Bool, List, [], ◌∷◌, ◌++◌, Option, Some, None, length, refl, ap, sym, subst}
-use Rattle.av_ir.specs.declared.module.Module as ir
-use Rattle.av_ir.specs.declared.module.Func.{Func}
-use Rattle.av_ir.specs.declared.module.Region.{Region}
+use Rattle.std.proofs.Common.{◌≡◌, ◌∙◌, ℕ, Bool, List, [], ◌∷◌, ◌++◌, Option, Some, None, length, ap, sym, subst}
 use Rattle.av_tree.specs.declared.node.Node.{Node, out-Node}
 use Rattle.av_tree.specs.declared.node.Body.{Body}
 use Rattle.av_tree.specs.declared.node.Tree.{Tree}
@@ -16,7 +13,7 @@ use Rattle.av_verify.specs.declared.refusal.VerifyRefusal.{VerifyRefusal}
 use Rattle.av_verify.specs.declared.scope.Role.TheVariants.{Plain}
 use Rattle.av_verify.specs.declared.scope.Scope.{Scope}
 use Rattle.av_verify.specs.Codes.{Refuses, asks, first_failing}
-use Rattle.av_verify.specs.Elaboration.{Outcome, Step, gives, next, checked, step, IsRefused, only_region, region_with, loop_of, operation_with, function_of, module_of, elaborated}
+use Rattle.av_verify.specs.Elaboration.{Outcome, gives, next, checked, step, IsRefused, only_region, region_with, loop_of, operation_with, function_of, module_of, elaborated}
 use Rattle.av_verify.specs.Entries.{entry_of, has_needed}
 use Rattle.av_verify.specs.FirstPath.{gives_nothing}
 use Rattle.av_verify.specs.Loops.{are_new, end_with}

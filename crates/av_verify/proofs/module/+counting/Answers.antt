@@ -1,7 +1,6 @@
-use Rattle.std.proofs.Common.{rules, ◌≡◌, ◌∙◌, ◌+◌, ◌-◌, ◌^◌, min, map, refl, ap, sym}
+use Rattle.std.proofs.Common.{rules, ◌∙◌, ◌-◌, ◌^◌, min, map, ap, sym}
 use Rattle.std.specs.Prelude.{sum}
 use Rattle.av_tree.specs.declared.node.Node.{out-Node}
-use Rattle.av_tree.specs.declared.node.Body.{out-Body}
 use Rattle.av_verify.specs.Modules.{operations_in, operations_within}
 use Rattle.av_verify.proofs.Counts.{in_node, in_body, count_more, count_all, one_more, at_most}
 use Rattle.av_verify.proofs.module.+counting.Goals as goal

@@ -1,4 +1,4 @@
-use Rattle.std.proofs.Common.{rules, ◌≡◌, ◌∙◌, ap, sym, subst}
+use Rattle.std.proofs.Common.{rules, ◌∙◌, ap, subst}
 use Rattle.std.specs.Prelude.{codes}
 use Rattle.av_verify.specs.declared.refusal.Code.TheVariants as code
 use Rattle.av_verify.specs.Codes.{Asked, asks, first_failing}

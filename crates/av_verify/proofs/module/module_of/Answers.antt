@@ -1,4 +1,4 @@
-use Rattle.std.proofs.Common.{rules, ◌≡◌, sym, subst}
+use Rattle.std.proofs.Common.{sym, subst}
 use Rattle.std.specs.Option.{option_copied}
 use Rattle.av_ir.specs.declared.module.Module as ir
 use Rattle.av_verify.specs.Elaboration.{IsRefused, module_of}

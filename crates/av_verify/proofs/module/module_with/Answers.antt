@@ -1,4 +1,4 @@
-use Rattle.std.proofs.Common.{rules, ◌≡◌, ◌∙◌, [], ◌∷◌, ap, sym, subst}
+use Rattle.std.proofs.Common.{rules, ◌∙◌, [], ◌∷◌, ap, sym, subst}
 use Rattle.std.proofs.lemmas.Result.{err_from_is_err_and}
 use Rattle.av_verify.specs.Elaboration.{IsRefused, gives, next}
 use Rattle.av_verify.proofs.Outcomes.{refused_next}

@@ -1,11 +1,11 @@
 -- Each step of the walk, by what its parts give.
-use Rattle.std.proofs.Common.{rules, ◌≡◌, ◌∙◌, ◌+◌, true, [], refl, ap, sym, subst}
+use Rattle.std.proofs.Common.{rules, ◌∙◌, true, sym, subst}
 use Rattle.std.proofs.lemmas.Result.{err_from_is_err_and}
 use Rattle.av_ir.specs.declared.module.Op.{Op}
 use Rattle.av_ir.specs.declared.ty.Ty.TheVariants as ty
 use Rattle.av_verify.specs.declared.refusal.Code.TheVariants as code
 use Rattle.av_verify.specs.declared.rows.Row.{Row}
-use Rattle.av_verify.specs.declared.rows.Row.TheVariants.{Module, Function, Return, Constant, Binary, Loop, Yield, Load, Store}
+use Rattle.av_verify.specs.declared.rows.Row.TheVariants.{Return, Yield}
 use Rattle.av_verify.specs.declared.scope.Role.TheVariants.{Plain, Dimension}
 use Rattle.av_verify.specs.Accesses.{load_rules, load_op, loaded_elem, store_rules, store_op}
 use Rattle.av_verify.specs.Arith.{constant_rules, constant_op, constant_elem, binary_rules, binary_op, left_elem}

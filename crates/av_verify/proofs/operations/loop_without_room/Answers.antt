@@ -1,5 +1,5 @@
 -- A loop whose other rules hold fails by the limit.
-use Rattle.std.proofs.Common.{rules, ◌≡◌, false, refl, ap, sym, subst}
+use Rattle.std.proofs.Common.{rules, false, sym, subst}
 use Rattle.std.proofs.lemmas.Result.{err_from_is_err_and}
 use Rattle.av_ir.specs.declared.module.Op.{Op}
 use Rattle.av_verify.specs.Elaboration.{Step, IsRefused, fails, loop_of}
