@@ -1,5 +1,5 @@
 -- The operations that rows make.
-use Rattle.std.specs.Prelude.{ℕ, ℤ, List, [], ◌∷◌, ◌++◌, codes, drop, length, map, reverse, if◌then◌else◌, Option, Some, None, option_map, option_and_then}
+use Rattle.std.specs.Prelude.{ℕ, ℤ, Bool, false, List, [], ◌∷◌, ◌++◌, codes, drop, length, map, reverse, if◌then◌else◌, Option, Some, None, option_map, option_and_then}
 use Rattle.std.specs.Str.{bytes_eq}
 use Rattle.av_tree.specs.declared.node.Node.{Node, out-Node, roll-Node}
 use Rattle.av_tree.specs.declared.node.Body.{Body, roll-Body}
@@ -23,56 +23,75 @@ use Rattle.av_reader.specs.Accesses.{numbering}
 abbrev pub named : Node → List (List ℕ) → ℕ → Node
 named node results place = roll-Node (record (out-Node node) { results = results; place = place })
 
+-- with these properties, attributes and regions
+abbrev pub with_regions : Node → List Named → List Named → List Body → Node
+with_regions node properties attrs regions = roll-Node (record (out-Node node) { properties = properties; attrs = attrs; regions = regions })
+
 -- a module of these operations, the last one first
 abbrev pub module_of : List Named → List Named → List Node → ℕ → Node
-module_of properties attrs nodes place = roll-Node (record (out-Node (plain (codes "builtin.module") place)) {
-  properties = properties;
-  attrs = attrs;
-  regions = roll-Body (record { args = []; nodes = reverse nodes }) ∷ [];
-})
+module_of properties attrs nodes place =
+    with_regions (plain (codes "builtin.module") place) properties attrs (roll-Body (record { args = []; nodes = reverse nodes }) ∷ [])
+
+-- whether this is one module and nothing more
+abbrev pub is_module : List Node → Bool
+is_module (node ∷ []) = bytes_eq (out-Node node).name (codes "builtin.module")
+is_module _ = false
 
 -- the module of a file, which is put in around all that is no module alone
 abbrev pub root_of : List Node → Node
 root_of [] = module_of [] [] [] 0
-root_of (node ∷ []) = if bytes_eq (out-Node node).name (codes "builtin.module") then node else module_of [] [] (node ∷ []) 0
-root_of (node ∷ next ∷ nodes) = module_of [] [] (node ∷ next ∷ nodes) 0
+root_of (node ∷ nodes) = if is_module (node ∷ nodes) then node else module_of [] [] (node ∷ nodes) 0
+
+-- the property of a function that says its type
+abbrev pub function_type : List BodyArg → List TypeText → Named
+function_type args results = entry (codes "function_type") (attr.Type (ty.Func (map (λ (arg : BodyArg). arg.ty) args) results))
 
 -- a function of this visibility, symbol, arguments, results, attributes and operations, each list from the last to the first
 abbrev pub function_of : List Named → List ℕ → List BodyArg → List TypeText → List Named → List Node → ℕ → Node
 function_of properties symbol args results attrs nodes place =
-    let type = ty.Func (map (λ (arg : BodyArg). arg.ty) (reverse args)) (reverse results) in
-    roll-Node (record (out-Node (plain (codes "func.func") place)) {
-      properties = properties ++ entry (codes "function_type") (attr.Type type) ∷ entry (codes "sym_name") (attr.Quoted (drop 1 symbol)) ∷ [];
-      attrs = reverse attrs;
-      regions = roll-Body (record { args = reverse args; nodes = reverse nodes }) ∷ [];
-    })
+    with_regions (plain (codes "func.func") place)
+    (properties ++ function_type (reverse args) (reverse results) ∷ entry (codes "sym_name") (attr.Quoted (drop 1 symbol)) ∷ [])
+    (reverse attrs)
+    (roll-Body (record { args = reverse args; nodes = reverse nodes }) ∷ [])
 
--- a terminator of this word, with its values; the word `return` is short for `func.return`
+-- the name of a terminator of this word: `return` is short for `func.return`
+abbrev pub name_of_end : List ℕ → List ℕ
+name_of_end word = if bytes_eq word (codes "return") then codes "func.return" else word
+
+-- with these operands of these types
+abbrev pub with_typed : Node → List (List ℕ) → List (Option TypeText) → Node
+with_typed node operands types = roll-Node (record (out-Node node) { operands = operands; in_types = types })
+
+-- a terminator of this word, with its values
 abbrev pub terminator_of : List ℕ → TypedValues → ℕ → Node
 terminator_of word values place =
-    let name = if bytes_eq word (codes "return") then codes "func.return" else word in
-    roll-Node (record (out-Node (plain name place)) {
-      operands = reverse values.values;
-      in_types = map (λ (type : TypeText). Some type) (reverse values.types);
-    })
+    with_typed (plain (name_of_end word) place) (reverse values.values) (map (λ (type : TypeText). Some type) (reverse values.types))
 
 abbrev pub no_values : TypedValues
 no_values = record { values = []; types = [] }
 
-abbrev pub constant_of : Constant → ℕ → Node
-constant_of constant place = roll-Node (record (out-Node (plain (codes "arith.constant") place)) {
+-- with a number as its value, and a result of the number's type
+abbrev pub with_constant : Node → Constant → Node
+with_constant node constant = roll-Node (record (out-Node node) {
   properties = entry (codes "value") (attr.Number constant.value constant.ty) ∷ [];
   out_types = Some constant.ty ∷ [];
 })
 
--- an operation on two operands of one type, with a result of this type
-abbrev pub binary_of : List ℕ → List ℕ → List ℕ → List Named → TypeText → ℕ → Node
-binary_of word left right properties type place = roll-Node (record (out-Node (plain word place)) {
-  operands = left ∷ right ∷ [];
-  properties = reverse properties;
+abbrev pub constant_of : Constant → ℕ → Node
+constant_of constant place = with_constant (plain (codes "arith.constant") place) constant
+
+-- with these two operands and a result, all of one type
+abbrev pub with_one_type : Node → List (List ℕ) → List Named → TypeText → Node
+with_one_type node operands properties type = roll-Node (record (out-Node node) {
+  operands = operands;
+  properties = properties;
   in_types = Some type ∷ Some type ∷ [];
   out_types = Some type ∷ [];
 })
+
+-- an operation on two operands of one type, with a result of this type
+abbrev pub binary_of : List ℕ → List ℕ → List ℕ → List Named → TypeText → ℕ → Node
+binary_of word left right properties type place = with_one_type (plain word place) (left ∷ right ∷ []) (reverse properties) type
 
 -- a loop of this counter, bounds, step, carried values, operations and attributes, the lists from the last to the first
 abbrev pub loop_of : List ℕ → MapUse → MapUse → ℤ → Carried → List Node → List Named → ℕ → Option Node

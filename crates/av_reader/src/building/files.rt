@@ -1,7 +1,15 @@
 //! Rows of files, modules and functions.
 
+ghost use Rattle.std.specs.Prelude.{◌≡◌, [], ◌∷◌, ◌++◌, codes, drop, map, reverse, Some, None, IfErr, IfOk, OnOk};
+ghost use Rattle.av_reader.specs.Nodes.{entry};
+ghost use Rattle.av_reader.specs.Operations.{function_of as the_function_of, function_type as the_function_type, is_module as is_one_module, module_of as the_module_of, root_of as the_root_of, with_regions};
+ghost use Rattle.av_reader.specs.rows.FileRows.{by_row as by_file_row};
+ghost use Rattle.av_reader.specs.rows.FunctionRows.{by_row as by_function_row};
+
 use super::attributes::no_entries;
-use super::regions::{named_node, no_nodes, onward, property, with_results, without_results};
+use super::regions::{
+    named_node, no_nodes, onward, plain_node, property, with_results, without_results,
+};
 use super::stack::{Fault, Stack, before, in_order, text_of};
 use super::value::Onward;
 use av_affine::{Duplicate, Seq, Text};
@@ -9,11 +17,15 @@ use av_tree::table::{FileRule, FunctionRule};
 use av_tree::{Attr, Body, BodyArg, Named, Node, Tree, TypeText};
 use std::alloc::Global;
 
-pub(super) fn reduce_file(stack: &mut Stack, rule: FileRule, place: u32) -> Result<(), Fault> {
+pub(super) fn reduce_file(stack: &mut Stack, rule: FileRule, place: u32) -> Result<(), Fault>
+    ensures ok { OnOk result (by_file_row rule place stack.old ≡ Some stack.new) }
+    ensures misshapen { IfErr result (λ fault. fault ≡ Fault.Misshapen → by_file_row rule place stack.old ≡ None) }
+{
     match rule {
         FileRule::WholeFile => whole_file(stack),
         FileRule::NoMoreAliases => no_entries(stack),
-        FileRule::NoContent | FileRule::NoMoreFunctions => no_nodes(stack),
+        FileRule::NoContent => no_nodes(stack),
+        FileRule::NoMoreFunctions => no_nodes(stack),
         FileRule::NamedContent => with_results(stack, place),
         FileRule::PlainContent => without_results(stack),
         FileRule::WrittenFunction => same_node(stack),
@@ -24,37 +36,61 @@ pub(super) fn reduce_file(stack: &mut Stack, rule: FileRule, place: u32) -> Resu
     }
 }
 
-fn same_node(stack: &mut Stack) -> Result<(), Fault> {
+#[tactic(auto, using(crate::proofs::Replacing::replacing))]
+fn same_node(stack: &mut Stack) -> Result<(), Fault>
+    ensures ok { OnOk result (by_file_row FileRule.WrittenFunction 0 stack.old ≡ Some stack.new) }
+    ensures misshapen { IfErr result (λ fault. fault ≡ Fault.Misshapen → by_file_row FileRule.WrittenFunction 0 stack.old ≡ None) }
+{
     let node = stack.node()?;
-    stack.push_node(node)
+    stack.push_node(node)?;
+    Ok(())
 }
 
-fn only_module(stack: &mut Stack) -> Result<(), Fault> {
+#[tactic(auto, using(crate::proofs::Replacing::replacing))]
+fn only_module(stack: &mut Stack) -> Result<(), Fault>
+    ensures ok { OnOk result (by_file_row FileRule.OnlyModule 0 stack.old ≡ Some stack.new) }
+    ensures misshapen { IfErr result (λ fault. fault ≡ Fault.Misshapen → by_file_row FileRule.OnlyModule 0 stack.old ≡ None) }
+{
     let alloc = stack.alloc();
     let node = stack.node()?;
     stack.push_onward(Onward {
         node,
         others: Seq::new(alloc),
-    })
+    })?;
+    Ok(())
 }
 
-fn node_before(stack: &mut Stack) -> Result<(), Fault> {
+#[tactic(auto, using(crate::proofs::Replacing::replacing))]
+fn node_before(stack: &mut Stack) -> Result<(), Fault>
+    ensures ok { OnOk result (by_file_row FileRule.NextFunction 0 stack.old ≡ Some stack.new) }
+    ensures misshapen { IfErr result (λ fault. fault ≡ Fault.Misshapen → by_file_row FileRule.NextFunction 0 stack.old ≡ None) }
+{
     let node = stack.node()?;
     let others = stack.nodes()?;
     let nodes = before(node, others)?;
-    stack.push_nodes(nodes)
+    stack.push_nodes(nodes)?;
+    Ok(())
 }
 
-fn named_node_before(stack: &mut Stack, place: u32) -> Result<(), Fault> {
+#[tactic(auto, using(crate::proofs::Replacing::replacing))]
+fn named_node_before(stack: &mut Stack, place: u32) -> Result<(), Fault>
+    ensures ok { OnOk result (by_file_row FileRule.NextNamedFunction place stack.old ≡ Some stack.new) }
+    ensures misshapen { IfErr result (λ fault. fault ≡ Fault.Misshapen → by_file_row FileRule.NextNamedFunction place stack.old ≡ None) }
+{
     let results = stack.texts()?;
     let node = stack.node()?;
     let others = stack.nodes()?;
-    let node = named_node(node, in_order(results), place);
-    let nodes = before(node, others)?;
-    stack.push_nodes(nodes)
+    let named = named_node(node, in_order(results), place);
+    let nodes = before(named, others)?;
+    stack.push_nodes(nodes)?;
+    Ok(())
 }
 
-fn whole_file(stack: &mut Stack) -> Result<(), Fault> {
+#[tactic(auto, using(crate::proofs::Replacing::replacing))]
+fn whole_file(stack: &mut Stack) -> Result<(), Fault>
+    ensures ok { OnOk result (by_file_row FileRule.WholeFile 0 stack.old ≡ Some stack.new) }
+    ensures misshapen { IfErr result (λ fault. fault ≡ Fault.Misshapen → by_file_row FileRule.WholeFile 0 stack.old ≡ None) }
+{
     let alloc = stack.alloc();
     let _aliases = stack.entries()?;
     let nodes = stack.nodes()?;
@@ -62,11 +98,15 @@ fn whole_file(stack: &mut Stack) -> Result<(), Fault> {
     stack.push_tree(Tree {
         aliases: Seq::new(alloc),
         root,
-    })
+    })?;
+    Ok(())
 }
 
 // The module of a file, which is put in around functions.
-fn root_of(alloc: Global, mut nodes: Seq<Node>) -> Result<Node, Fault> {
+fn root_of(alloc: Global, mut nodes: Seq<Node>) -> Result<Node, Fault>
+    ensures ok { IfOk result (λ root. root ≡ the_root_of nodes) }
+    ensures err { IfErr result (λ fault. fault ≡ Fault.NoMemory) }
+{
     if is_module(nodes.as_slice()) {
         if let Some(node) = nodes.pop() {
             return Ok(node);
@@ -75,115 +115,189 @@ fn root_of(alloc: Global, mut nodes: Seq<Node>) -> Result<Node, Fault> {
     module_of(alloc, Seq::new(alloc), Seq::new(alloc), nodes, 0)
 }
 
-fn is_module(nodes: &[Node]) -> bool {
+fn is_module(nodes: &[Node]) -> bool
+    ensures { result ≡ is_one_module nodes.now }
+{
     match nodes {
         [node] => node.name.as_slice() == b"builtin.module".as_slice(),
         _ => false,
     }
 }
 
+// A module of these operations, which stand from the last to the first.
 fn module_of(
     alloc: Global,
     properties: Seq<Named>,
     attrs: Seq<Named>,
     nodes: Seq<Node>,
     place: u32,
-) -> Result<Node, Fault> {
-    let mut regions = Seq::new(alloc);
-    regions.push(Body {
+) -> Result<Node, Fault>
+    ensures ok { IfOk result (λ node. node ≡ the_module_of properties attrs nodes place) }
+    ensures err { IfErr result (λ fault. fault ≡ Fault.NoMemory) }
+{
+    let body = Body {
         args: Seq::new(alloc),
         nodes: in_order(nodes),
-    })?;
-    Ok(Node {
-        name: text_of(alloc, b"builtin.module")?,
-        place,
-        results: Seq::new(alloc),
-        operands: Seq::new(alloc),
+    };
+    let name = text_of(alloc, b"builtin.module")?;
+    with_body(
+        alloc,
+        plain_node(alloc, name, place),
         properties,
         attrs,
-        regions,
-        in_types: Seq::new(alloc),
-        out_types: Seq::new(alloc),
-    })
+        body,
+    )
+}
+
+// A node with these properties and attributes, and one region.
+fn with_body(
+    alloc: Global,
+    mut node: Node,
+    properties: Seq<Named>,
+    attrs: Seq<Named>,
+    body: Body,
+) -> Result<Node, Fault>
+    ensures ok { IfOk result (λ made. made ≡ with_regions node properties attrs (body ∷ [])) }
+    ensures err { IfErr result (λ fault. fault ≡ Fault.NoMemory) }
+{
+    let mut regions = Seq::new(alloc);
+    regions.push(body)?;
+    node.properties = properties;
+    node.attrs = attrs;
+    node.regions = regions;
+    Ok(node)
 }
 
 pub(super) fn reduce_function(
     stack: &mut Stack,
     rule: FunctionRule,
     place: u32,
-) -> Result<(), Fault> {
+) -> Result<(), Fault>
+    ensures ok { OnOk result (by_function_row rule place stack.old ≡ Some stack.new) }
+    ensures misshapen { IfErr result (λ fault. fault ≡ Fault.Misshapen → by_function_row rule place stack.old ≡ None) }
+{
     match rule {
         FunctionRule::BuiltinModule => builtin_module(stack, place),
-        FunctionRule::NoSymbol | FunctionRule::NoVisibility => no_entries(stack),
+        FunctionRule::NoSymbol => no_entries(stack),
+        FunctionRule::NoVisibility => no_entries(stack),
         FunctionRule::WrittenSymbol => written_symbol(stack),
         FunctionRule::WrittenVisibility => written_visibility(stack),
         FunctionRule::FuncFunc => func_func(stack, place),
-        FunctionRule::NoFunctionArguments | FunctionRule::NoMoreFunctionArguments => {
-            stack.push_args(Seq::new(stack.alloc()))
-        }
-        FunctionRule::FirstFunctionArgument | FunctionRule::NextFunctionArgument => {
-            argument_before(stack)
-        }
+        FunctionRule::NoFunctionArguments => no_arguments(stack),
+        FunctionRule::NoMoreFunctionArguments => no_arguments(stack),
+        FunctionRule::FirstFunctionArgument => argument_before(stack),
+        FunctionRule::NextFunctionArgument => argument_before(stack),
         FunctionRule::ArgumentOfFunction => argument(stack),
-        FunctionRule::ModuleForm | FunctionRule::FunctionForm => same_node(stack),
+        FunctionRule::ModuleForm => same_node(stack),
+        FunctionRule::FunctionForm => same_node(stack),
     }
 }
 
-fn argument_before(stack: &mut Stack) -> Result<(), Fault> {
+#[tactic(auto, using(crate::proofs::Replacing::replacing))]
+fn no_arguments(stack: &mut Stack) -> Result<(), Fault>
+    ensures ok { OnOk result (by_function_row FunctionRule.NoFunctionArguments 0 stack.old ≡ Some stack.new) }
+    ensures misshapen { IfErr result (λ fault. fault ≡ Fault.Misshapen → by_function_row FunctionRule.NoFunctionArguments 0 stack.old ≡ None) }
+{
+    stack.push_args(Seq::new(stack.alloc()))?;
+    Ok(())
+}
+
+#[tactic(auto, using(crate::proofs::Replacing::replacing))]
+fn argument_before(stack: &mut Stack) -> Result<(), Fault>
+    ensures ok { OnOk result (by_function_row FunctionRule.NextFunctionArgument 0 stack.old ≡ Some stack.new) }
+    ensures misshapen { IfErr result (λ fault. fault ≡ Fault.Misshapen → by_function_row FunctionRule.NextFunctionArgument 0 stack.old ≡ None) }
+{
     let arg = stack.arg()?;
     let others = stack.args()?;
     let args = before(arg, others)?;
-    stack.push_args(args)
+    stack.push_args(args)?;
+    Ok(())
 }
 
 // An argument; its dictionary is dropped.
-fn argument(stack: &mut Stack) -> Result<(), Fault> {
+#[tactic(auto, using(crate::proofs::Replacing::replacing))]
+fn argument(stack: &mut Stack) -> Result<(), Fault>
+    ensures ok { OnOk result (by_function_row FunctionRule.ArgumentOfFunction 0 stack.old ≡ Some stack.new) }
+    ensures misshapen { IfErr result (λ fault. fault ≡ Fault.Misshapen → by_function_row FunctionRule.ArgumentOfFunction 0 stack.old ≡ None) }
+{
     let name = stack.text()?;
     let ty = stack.ty()?;
     let _dropped = stack.entries()?;
-    stack.push_arg(BodyArg { name, ty })
+    stack.push_arg(BodyArg { name, ty })?;
+    Ok(())
 }
 
-fn written_symbol(stack: &mut Stack) -> Result<(), Fault> {
+#[tactic(auto, using(crate::proofs::Replacing::replacing))]
+fn written_symbol(stack: &mut Stack) -> Result<(), Fault>
+    ensures ok { OnOk result (by_function_row FunctionRule.WrittenSymbol 0 stack.old ≡ Some stack.new) }
+    ensures misshapen { IfErr result (λ fault. fault ≡ Fault.Misshapen → by_function_row FunctionRule.WrittenSymbol 0 stack.old ≡ None) }
+{
     let alloc = stack.alloc();
     let symbol = stack.text()?;
-    let entry = quoted(alloc, b"sym_name", name_of_symbol(alloc, &symbol)?)?;
+    let entry = symbol_entry(alloc, &symbol)?;
     let entries = before(entry, Seq::new(alloc))?;
-    stack.push_entries(entries)
+    stack.push_entries(entries)?;
+    Ok(())
 }
 
-fn written_visibility(stack: &mut Stack) -> Result<(), Fault> {
+#[tactic(auto, using(crate::proofs::Replacing::replacing))]
+fn written_visibility(stack: &mut Stack) -> Result<(), Fault>
+    ensures ok { OnOk result (by_function_row FunctionRule.WrittenVisibility 0 stack.old ≡ Some stack.new) }
+    ensures misshapen { IfErr result (λ fault. fault ≡ Fault.Misshapen → by_function_row FunctionRule.WrittenVisibility 0 stack.old ≡ None) }
+{
     let alloc = stack.alloc();
     let word = stack.text()?;
     let entry = quoted(alloc, b"sym_visibility", word)?;
     let entries = before(entry, Seq::new(alloc))?;
-    stack.push_entries(entries)
+    stack.push_entries(entries)?;
+    Ok(())
 }
 
-// The name without the `@` before it.
-fn name_of_symbol(alloc: Global, symbol: &Text) -> Result<Text, Fault> {
+// The property of the name of an operation, which is the symbol without the `@` before it.
+fn symbol_entry(alloc: Global, symbol: &Text) -> Result<Named, Fault>
+    ensures ok { IfOk result (λ one. one ≡ entry (codes "sym_name") (Attr.Quoted (drop 1 symbol.now))) }
+    ensures err { IfErr result (λ fault. fault ≡ Fault.NoMemory) }
+{
+    let name = name_of_symbol(alloc, symbol)?;
+    quoted(alloc, b"sym_name", name)
+}
+
+fn name_of_symbol(alloc: Global, symbol: &Text) -> Result<Text, Fault>
+    ensures ok { IfOk result (λ name. name ≡ drop 1 symbol.now) }
+    ensures err { IfErr result (λ fault. fault ≡ Fault.NoMemory) }
+{
     match symbol.as_slice() {
         [_, name @ ..] => text_of(alloc, name),
         [] => Ok(Seq::new(alloc)),
     }
 }
 
-fn quoted(alloc: Global, name: &[u8], value: Text) -> Result<Named, Fault> {
+fn quoted(alloc: Global, name: &[u8], value: Text) -> Result<Named, Fault>
+    ensures ok { IfOk result (λ one. one ≡ entry name.now (Attr.Quoted value)) }
+    ensures err { IfErr result (λ fault. fault ≡ Fault.NoMemory) }
+{
     property(alloc, name, Attr::Quoted(value))
 }
 
-fn builtin_module(stack: &mut Stack, place: u32) -> Result<(), Fault> {
+#[tactic(auto, using(crate::proofs::Replacing::replacing))]
+fn builtin_module(stack: &mut Stack, place: u32) -> Result<(), Fault>
+    ensures ok { OnOk result (by_function_row FunctionRule.BuiltinModule place stack.old ≡ Some stack.new) }
+    ensures misshapen { IfErr result (λ fault. fault ≡ Fault.Misshapen → by_function_row FunctionRule.BuiltinModule place stack.old ≡ None) }
+{
     let alloc = stack.alloc();
     let properties = stack.entries()?;
     let attrs = stack.entries()?;
     let nodes = stack.nodes()?;
-    let node = module_of(alloc, in_order(properties), in_order(attrs), nodes, place)?;
-    stack.push_node(node)
+    let properties = in_order(properties);
+    let attrs = in_order(attrs);
+    let node = module_of(alloc, properties, attrs, nodes, place)?;
+    stack.push_node(node)?;
+    Ok(())
 }
 
-// What a function is written with.
+// What a function is written with, each list from the last to the first.
 #[derive(Drop)]
-struct Written {
+pub(super) struct WrittenFunction {
     properties: Seq<Named>,
     symbol: Text,
     args: Seq<BodyArg>,
@@ -192,23 +306,37 @@ struct Written {
     nodes: Seq<Node>,
 }
 
-fn func_func(stack: &mut Stack, place: u32) -> Result<(), Fault> {
+#[tactic(auto, using(crate::proofs::Replacing::replacing))]
+fn func_func(stack: &mut Stack, place: u32) -> Result<(), Fault>
+    ensures ok { OnOk result (by_function_row FunctionRule.FuncFunc place stack.old ≡ Some stack.new) }
+    ensures misshapen { IfErr result (λ fault. fault ≡ Fault.Misshapen → by_function_row FunctionRule.FuncFunc place stack.old ≡ None) }
+{
     let alloc = stack.alloc();
-    let written = Written {
-        properties: stack.entries()?,
-        symbol: stack.text()?,
-        args: stack.args()?,
-        results: stack.types()?,
-        attrs: stack.entries()?,
-        nodes: stack.nodes()?,
+    let properties = stack.entries()?;
+    let symbol = stack.text()?;
+    let args = stack.args()?;
+    let results = stack.types()?;
+    let attrs = stack.entries()?;
+    let nodes = stack.nodes()?;
+    let written = WrittenFunction {
+        properties,
+        symbol,
+        args,
+        results,
+        attrs,
+        nodes,
     };
     let node = function_of(alloc, written, place)?;
-    stack.push_node(node)
+    stack.push_node(node)?;
+    Ok(())
 }
 
-fn function_of(alloc: Global, written: Written, place: u32) -> Result<Node, Fault> {
-    let Written {
-        mut properties,
+fn function_of(alloc: Global, written: WrittenFunction, place: u32) -> Result<Node, Fault>
+    ensures ok { IfOk result (λ node. node ≡ the_function_of written.properties written.symbol written.args written.results written.attrs written.nodes place) }
+    ensures err { IfErr result (λ fault. fault ≡ Fault.NoMemory) }
+{
+    let WrittenFunction {
+        properties,
         symbol,
         args,
         results,
@@ -216,33 +344,39 @@ fn function_of(alloc: Global, written: Written, place: u32) -> Result<Node, Faul
         nodes,
     } = written;
     let args = in_order(args);
-    properties.push(function_type(alloc, &args, in_order(results))?)?;
-    properties.push(quoted(alloc, b"sym_name", name_of_symbol(alloc, &symbol)?)?)?;
-    let mut regions = Seq::new(alloc);
-    regions.push(Body {
-        args,
-        nodes: in_order(nodes),
-    })?;
+    let results = in_order(results);
+    let signed = with_signature(alloc, properties, &args, results, &symbol)?;
     let name = text_of(alloc, b"func.func")?;
     let attrs = in_order(attrs);
-    Ok(Node {
-        name,
-        place,
-        results: Seq::new(alloc),
-        operands: Seq::new(alloc),
-        properties,
-        attrs,
-        regions,
-        in_types: Seq::new(alloc),
-        out_types: Seq::new(alloc),
-    })
+    let nodes = in_order(nodes);
+    let body = Body { args, nodes };
+    with_body(alloc, plain_node(alloc, name, place), signed, attrs, body)
 }
 
-fn function_type(
+// Properties, and those of the type and the name of a function after them.
+fn with_signature(
     alloc: Global,
+    mut properties: Seq<Named>,
     args: &Seq<BodyArg>,
     results: Seq<TypeText>,
-) -> Result<Named, Fault> {
+    symbol: &Text,
+) -> Result<Seq<Named>, Fault>
+    ensures ok { IfOk result (λ made. made ≡ properties ++ the_function_type args.now results ∷ entry (codes "sym_name") (Attr.Quoted (drop 1 symbol.now)) ∷ []) }
+    ensures err { IfErr result (λ fault. fault ≡ Fault.NoMemory) }
+{
+    let ty = function_type(alloc, args, results)?;
+    let name = symbol_entry(alloc, symbol)?;
+    let mut more = Seq::new(alloc);
+    more.push(ty)?;
+    more.push(name)?;
+    properties.append(more)?;
+    Ok(properties)
+}
+
+fn function_type(alloc: Global, args: &Seq<BodyArg>, results: Seq<TypeText>) -> Result<Named, Fault>
+    ensures ok { IfOk result (λ one. one ≡ the_function_type args.now results) }
+    ensures err { IfErr result (λ fault. fault ≡ Fault.NoMemory) }
+{
     let inputs = types_of(alloc, args.as_slice())?;
     property(
         alloc,
@@ -251,7 +385,10 @@ fn function_type(
     )
 }
 
-fn types_of(alloc: Global, args: &[BodyArg]) -> Result<Seq<TypeText>, Fault> {
+fn types_of(alloc: Global, args: &[BodyArg]) -> Result<Seq<TypeText>, Fault>
+    ensures ok { IfOk result (λ types. types ≡ map (λ arg. arg.ty) args.now) }
+    ensures err { IfErr result (λ fault. fault ≡ Fault.NoMemory) }
+{
     let mut types = Seq::new(alloc);
     for arg in args {
         types.push(arg.ty.duplicate(alloc)?)?;

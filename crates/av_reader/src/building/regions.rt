@@ -1,8 +1,8 @@
 //! Rows of operations in regions, and of operations of the Arith dialect.
 
-ghost use Rattle.std.specs.Prelude.{◌≡◌, [], ◌∷◌, Some, None, IfErr, IfOk, OnOk};
+ghost use Rattle.std.specs.Prelude.{◌≡◌, [], ◌∷◌, codes, Some, None, IfErr, IfOk, OnOk};
 ghost use Rattle.av_reader.specs.Nodes.{entry, plain};
-ghost use Rattle.av_reader.specs.Operations.{constant_of, named, no_values as none_of, terminator_of};
+ghost use Rattle.av_reader.specs.Operations.{name_of_end, named, no_values as none_of, terminator_of, with_constant, with_one_type, with_typed};
 ghost use Rattle.av_reader.specs.rows.ArithRows.{by_row as by_arith_row};
 ghost use Rattle.av_reader.specs.rows.RegionRows.{by_row};
 
@@ -15,7 +15,10 @@ use av_tree::table::{ArithRule, RegionRule};
 use av_tree::{Attr, Named, Node, TypeText};
 use std::alloc::Global;
 
-pub(super) fn reduce(stack: &mut Stack, rule: RegionRule, place: u32) -> Result<(), Fault> {
+pub(super) fn reduce(stack: &mut Stack, rule: RegionRule, place: u32) -> Result<(), Fault>
+    ensures ok { OnOk result (by_row rule place stack.old ≡ Some stack.new) }
+    ensures misshapen { IfErr result (λ fault. fault ≡ Fault.Misshapen → by_row rule place stack.old ≡ None) }
+{
     match rule {
         RegionRule::NoMoreOperations => no_nodes(stack),
         RegionRule::WithResults => with_results(stack, place),
@@ -163,19 +166,42 @@ fn values_and_types(stack: &mut Stack) -> Result<(), Fault>
     Ok(())
 }
 
-fn terminator(stack: &mut Stack, place: u32) -> Result<(), Fault> {
+#[tactic(auto, using(crate::proofs::Replacing::replacing))]
+fn terminator(stack: &mut Stack, place: u32) -> Result<(), Fault>
+    ensures ok { OnOk result (by_row RegionRule.TerminatorOperation place stack.old ≡ Some stack.new) }
+    ensures misshapen { IfErr result (λ fault. fault ≡ Fault.Misshapen → by_row RegionRule.TerminatorOperation place stack.old ≡ None) }
+{
     let alloc = stack.alloc();
     let word = stack.text()?;
-    let Terminated {
-        values,
-        nodes: others,
-    } = stack.terminated()?;
-    let name = terminator_name(alloc, word)?;
-    let node = terminator_node(alloc, name, values, place)?;
-    stack.push_onward(Onward { node, others })
+    let rest = stack.terminated()?;
+    let node = terminator_node(alloc, word, rest.values, place)?;
+    stack.push_onward(Onward {
+        node,
+        others: rest.nodes,
+    })?;
+    Ok(())
 }
 
-fn terminator_name(alloc: Global, word: Text) -> Result<Text, Fault> {
+fn terminator_node(
+    alloc: Global,
+    word: Text,
+    values: TypedValues,
+    place: u32,
+) -> Result<Node, Fault>
+    ensures ok { IfOk result (λ node. node ≡ terminator_of word values place) }
+    ensures err { IfErr result (λ fault. fault ≡ Fault.NoMemory) }
+{
+    let name = terminator_name(alloc, word)?;
+    let written = in_order(values.types);
+    let types = written_types(alloc, written.as_slice())?;
+    let operands = in_order(values.values);
+    Ok(with_operands_of(plain_node(alloc, name, place), operands, types))
+}
+
+fn terminator_name(alloc: Global, word: Text) -> Result<Text, Fault>
+    ensures ok { IfOk result (λ name. name ≡ name_of_end word) }
+    ensures err { IfErr result (λ fault. fault ≡ Fault.NoMemory) }
+{
     if word.as_slice() == b"return".as_slice() {
         text_of(alloc, b"func.return")
     } else {
@@ -183,16 +209,12 @@ fn terminator_name(alloc: Global, word: Text) -> Result<Text, Fault> {
     }
 }
 
-fn terminator_node(
-    alloc: Global,
-    name: Text,
-    values: TypedValues,
-    place: u32,
-) -> Result<Node, Fault> {
-    let mut node = plain_node(alloc, name, place);
-    node.operands = in_order(values.values);
-    node.in_types = written_types(alloc, in_order(values.types).as_slice())?;
-    Ok(node)
+fn with_operands_of(mut node: Node, operands: Seq<Text>, types: Seq<Option<TypeText>>) -> Node
+    ensures { result ≡ with_typed node operands types }
+{
+    node.operands = operands;
+    node.in_types = types;
+    node
 }
 
 /// A node of a name and place, all else empty.
@@ -212,7 +234,10 @@ pub(super) fn plain_node(alloc: Global, name: Text, place: u32) -> Node
     }
 }
 
-pub(super) fn reduce_arith(stack: &mut Stack, rule: ArithRule, place: u32) -> Result<(), Fault> {
+pub(super) fn reduce_arith(stack: &mut Stack, rule: ArithRule, place: u32) -> Result<(), Fault>
+    ensures ok { OnOk result (by_arith_row rule place stack.old ≡ Some stack.new) }
+    ensures misshapen { IfErr result (λ fault. fault ≡ Fault.Misshapen → by_arith_row rule place stack.old ≡ None) }
+{
     match rule {
         ArithRule::ArithConstant => constant(stack, place),
         ArithRule::NumberConstant => number_constant(stack),
@@ -224,70 +249,136 @@ pub(super) fn reduce_arith(stack: &mut Stack, rule: ArithRule, place: u32) -> Re
     }
 }
 
-fn number_constant(stack: &mut Stack) -> Result<(), Fault> {
+#[tactic(auto, using(crate::proofs::Replacing::replacing))]
+fn number_constant(stack: &mut Stack) -> Result<(), Fault>
+    ensures ok { OnOk result (by_arith_row ArithRule.NumberConstant 0 stack.old ≡ Some stack.new) }
+    ensures misshapen { IfErr result (λ fault. fault ≡ Fault.Misshapen → by_arith_row ArithRule.NumberConstant 0 stack.old ≡ None) }
+{
     let value = stack.number()?;
     let ty = stack.ty()?;
-    stack.push_constant(Constant { value, ty })
+    stack.push_constant(Constant { value, ty })?;
+    Ok(())
 }
 
-fn constant(stack: &mut Stack, place: u32) -> Result<(), Fault> {
+#[tactic(auto, using(crate::proofs::Replacing::replacing))]
+fn constant(stack: &mut Stack, place: u32) -> Result<(), Fault>
+    ensures ok { OnOk result (by_arith_row ArithRule.ArithConstant place stack.old ≡ Some stack.new) }
+    ensures misshapen { IfErr result (λ fault. fault ≡ Fault.Misshapen → by_arith_row ArithRule.ArithConstant place stack.old ≡ None) }
+{
     let alloc = stack.alloc();
     let constant = stack.constant()?;
-    let node = constant_node(alloc, constant, place)?;
-    stack.push_node(node)
+    let name = text_of(alloc, b"arith.constant")?;
+    let node = constant_node(alloc, plain_node(alloc, name, place), constant)?;
+    stack.push_node(node)?;
+    Ok(())
 }
 
-fn constant_node(alloc: Global, constant: Constant, place: u32) -> Result<Node, Fault> {
+fn constant_node(alloc: Global, mut node: Node, constant: Constant) -> Result<Node, Fault>
+    ensures ok { IfOk result (λ made. made ≡ with_constant node constant) }
+    ensures err { IfErr result (λ fault. fault ≡ Fault.NoMemory) }
+{
     let Constant { value, ty } = constant;
-    let mut node = plain_node(alloc, text_of(alloc, b"arith.constant")?, place);
-    node.out_types.push(Some(ty.duplicate(alloc)?))?;
-    let number = Attr::Number { value, ty };
-    node.properties.push(property(alloc, b"value", number)?)?;
+    let mut out_types = Seq::new(alloc);
+    out_types.push(Some(ty.duplicate(alloc)?))?;
+    let mut properties = Seq::new(alloc);
+    let number = property(alloc, b"value", Attr::Number { value, ty })?;
+    properties.push(number)?;
+    node.properties = properties;
+    node.out_types = out_types;
     Ok(node)
 }
 
 /// A property.
-pub(super) fn property(alloc: Global, name: &[u8], value: Attr) -> Result<Named, Fault> {
+pub(super) fn property(alloc: Global, name: &[u8], value: Attr) -> Result<Named, Fault>
+    ensures ok { IfOk result (λ one. one ≡ entry name.now value) }
+    ensures err { IfErr result (λ fault. fault ≡ Fault.NoMemory) }
+{
     let name = text_of(alloc, name)?;
     Ok(Named { name, value })
 }
 
-fn overflowing(stack: &mut Stack, place: u32) -> Result<(), Fault> {
+#[tactic(auto, using(crate::proofs::Replacing::replacing))]
+fn overflowing(stack: &mut Stack, place: u32) -> Result<(), Fault>
+    ensures ok { OnOk result (by_arith_row ArithRule.ArithOverflowing place stack.old ≡ Some stack.new) }
+    ensures misshapen { IfErr result (λ fault. fault ≡ Fault.Misshapen → by_arith_row ArithRule.ArithOverflowing place stack.old ≡ None) }
+{
     let alloc = stack.alloc();
     let word = stack.text()?;
     let left = stack.text()?;
     let right = stack.text()?;
     let properties = stack.entries()?;
     let ty = stack.ty()?;
-    let mut node = plain_node(alloc, word, place);
-    node.operands = pair(alloc, left, right)?;
-    node.properties = in_order(properties);
-    node.in_types = same_type_twice(alloc, &ty)?;
-    node.out_types.push(Some(ty))?;
-    stack.push_node(node)
+    let operands = pair(alloc, left, right)?;
+    let node = binary_node(
+        alloc,
+        plain_node(alloc, word, place),
+        operands,
+        in_order(properties),
+        ty,
+    )?;
+    stack.push_node(node)?;
+    Ok(())
 }
 
-fn pair(alloc: Global, left: Text, right: Text) -> Result<Seq<Text>, Fault> {
+fn binary_node(
+    alloc: Global,
+    mut node: Node,
+    operands: Seq<Text>,
+    properties: Seq<Named>,
+    ty: TypeText,
+) -> Result<Node, Fault>
+    ensures ok { IfOk result (λ made. made ≡ with_one_type node operands properties ty) }
+    ensures err { IfErr result (λ fault. fault ≡ Fault.NoMemory) }
+{
+    let types = same_type_twice(alloc, &ty)?;
+    let mut out_types = Seq::new(alloc);
+    out_types.push(Some(ty))?;
+    node.operands = operands;
+    node.properties = properties;
+    node.in_types = types;
+    node.out_types = out_types;
+    Ok(node)
+}
+
+fn pair(alloc: Global, left: Text, right: Text) -> Result<Seq<Text>, Fault>
+    ensures ok { IfOk result (λ both. both ≡ left ∷ right ∷ []) }
+    ensures err { IfErr result (λ fault. fault ≡ Fault.NoMemory) }
+{
     let mut both = Seq::new(alloc);
     both.push(left)?;
     both.push(right)?;
     Ok(both)
 }
 
-fn same_type_twice(alloc: Global, ty: &TypeText) -> Result<Seq<Option<TypeText>>, Fault> {
+fn same_type_twice(alloc: Global, ty: &TypeText) -> Result<Seq<Option<TypeText>>, Fault>
+    ensures ok { IfOk result (λ types. types ≡ Some ty.now ∷ Some ty.now ∷ []) }
+    ensures err { IfErr result (λ fault. fault ≡ Fault.NoMemory) }
+{
     let mut types = Seq::new(alloc);
     types.push(Some(ty.duplicate(alloc)?))?;
     types.push(Some(ty.duplicate(alloc)?))?;
     Ok(types)
 }
 
-fn overflow_flags(stack: &mut Stack) -> Result<(), Fault> {
+#[tactic(auto, using(crate::proofs::Replacing::replacing))]
+fn overflow_flags(stack: &mut Stack) -> Result<(), Fault>
+    ensures ok { OnOk result (by_arith_row ArithRule.WrittenOverflow 0 stack.old ≡ Some stack.new) }
+    ensures misshapen { IfErr result (λ fault. fault ≡ Fault.Misshapen → by_arith_row ArithRule.WrittenOverflow 0 stack.old ≡ None) }
+{
     let alloc = stack.alloc();
     let first = stack.text()?;
     let others = stack.texts()?;
-    let words = in_order(before(first, others)?);
-    let name = text_of(alloc, b"#arith.overflow")?;
-    let entry = property(alloc, b"overflowFlags", Attr::Hash { name, words })?;
+    let words = before(first, others)?;
+    let entry = overflow_entry(alloc, in_order(words))?;
     let entries = before(entry, Seq::new(alloc))?;
-    stack.push_entries(entries)
+    stack.push_entries(entries)?;
+    Ok(())
+}
+
+fn overflow_entry(alloc: Global, words: Seq<Text>) -> Result<Named, Fault>
+    ensures ok { IfOk result (λ one. one ≡ entry (codes "overflowFlags") (Attr.Hash (codes "#arith.overflow") words)) }
+    ensures err { IfErr result (λ fault. fault ≡ Fault.NoMemory) }
+{
+    let name = text_of(alloc, b"#arith.overflow")?;
+    property(alloc, b"overflowFlags", Attr::Hash { name, words })
 }
