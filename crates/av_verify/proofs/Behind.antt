@@ -1,5 +1,5 @@
 -- Tests of names that stand behind references.
-use Rattle.std.proofs.Common.{◌≡◌, List, [], ◌∷◌, refl, ap, ◌∙◌, ℕ}
+use Rattle.std.proofs.Common.{◌≡◌, List, [], ◌∷◌, refl, ap, ℕ}
 use Rattle.std.specs.Prelude.{Bool, ◌&&◌, ◌||◌, map}
 use Rattle.std.specs.List.{list_all, list_any}
 use denote.Ref.{Bor}

@@ -1,11 +1,11 @@
 -- The entries of an index as names with their values.
-use Rattle.std.proofs.Common.{◌≡◌, ◌∙◌, List, [], ◌∷◌, Bool, true, false, cond, refl, ap, take}
-use Rattle.std.specs.Prelude.{ℕ, Option, Some, map}
+use Rattle.std.proofs.Common.{◌≡◌, List, [], ◌∷◌, Bool, true, false, cond, refl, ap}
+use Rattle.std.specs.Prelude.{ℕ, Some, map}
 use Rattle.std.specs.Str.{bytes_eq}
 use Rattle.std.specs.Map.{lookup}
 use Rattle.indexmap.specs.IndexMap.{insert_entry}
 use Rattle.av_ir.specs.declared.module.ValueId.{ValueId}
-use Rattle.av_verify.specs.Names.{Binding, binds, value_named, bound}
+use Rattle.av_verify.specs.Names.{binds, value_named, bound}
 
 pub finds : {K : Type 0} (f : K → List ℕ) (name : List ℕ) (es : List (K × ValueId))
     → lookup (λ k. bytes_eq name (f k)) es ≡ value_named name (map (λ e. binds (f e.0) e.1) es)

@@ -9,7 +9,6 @@ use Rattle.av_tree.specs.declared.attribute.Attr.TheVariants.{Number, «Type»}
 use Rattle.av_tree.specs.declared.attribute.Named.{Named, out-Named}
 use Rattle.av_tree.specs.declared.node.Node.{Node, out-Node}
 use Rattle.av_tree.specs.declared.node.Body.{Body, out-Body}
-use Rattle.av_tree.specs.declared.node.BodyArg.{BodyArg}
 use Rattle.av_tree.specs.declared.node.Tree.{Tree}
 use Rattle.av_tree.specs.declared.written.SizeText.TheVariants.{Fixed}
 use Rattle.av_tree.specs.declared.written.TypeText.{TypeText, TypeText-F, Scalar, MemRef, out-TypeText}

@@ -14,3 +14,4 @@ pub mod Accesses
 pub mod Ends
 pub mod Loops
 pub mod Modules
+pub mod Elaboration

@@ -1,14 +1,18 @@
 -- The values of a function so far, and the names that are visible.
-use Rattle.std.specs.Prelude.{ℕ, Bool, true, false, List, [], ◌∷◌, ◌++◌, length, slice_get, Option, Some, None}
+use Rattle.std.specs.Prelude.{ℕ, Bool, true, false, List, [], ◌∷◌, ◌++◌, length, slice_get, Option, Some}
 use Rattle.std.specs.Option.{option_map_or}
 use Rattle.av_ir.specs.declared.ty.Ty.{Ty}
 use Rattle.av_ir.specs.declared.module.ValueId.{ValueId}
 use Rattle.av_tree.specs.declared.written.TypeText.{TypeText}
 use Rattle.av_verify.specs.declared.scope.Role.{Role}
-use Rattle.av_verify.specs.declared.scope.Role.TheVariants.{Plain, Dimension}
+use Rattle.av_verify.specs.declared.scope.Role.TheVariants.{Dimension}
 use Rattle.av_verify.specs.declared.scope.Scope.{Scope}
 use Rattle.av_verify.specs.Names.{bound}
 use Rattle.av_verify.specs.Types.{agrees}
+
+-- nothing yet
+abbrev pub first_scope : Scope
+first_scope = record { names = []; values = []; roles = []; owners = [] }
 
 -- values are numbered in order
 abbrev pub next_value : Scope → ValueId

@@ -12,6 +12,7 @@ use Rattle.av_ir.specs.declared.ty.Extent.{Extent}
 use Rattle.av_ir.specs.declared.ty.Extent.TheVariants as extent
 use Rattle.av_ir.specs.declared.ty.Ty.{Ty}
 use Rattle.av_ir.specs.declared.ty.Ty.TheVariants as ty
+use Rattle.av_tree.specs.declared.written.LayoutText.{LayoutText}
 use Rattle.av_tree.specs.declared.written.SizeText.{SizeText}
 use Rattle.av_tree.specs.declared.written.SizeText.TheVariants.{Fixed, Dynamic}
 use Rattle.av_tree.specs.declared.written.TypeText.{TypeText, Scalar, MemRef}
@@ -94,3 +95,20 @@ agrees (Some (Scalar name)) (ty.Scalar elem) = names_elem name elem
 agrees (Some (MemRef sizes name None)) (ty.MemRef extents elem) =
     names_elem name elem && pointwise is_extent sizes extents
 agrees (Some _) t = false
+
+-- ---- types that are written alike
+abbrev pub same_size : SizeText → SizeText → Bool
+same_size (Fixed n) (Fixed m) = n == m
+same_size Dynamic Dynamic = true
+same_size _ _ = false
+
+abbrev pub same_layout : Option LayoutText → Option LayoutText → Bool
+same_layout (Some a) (Some b) = pointwise same_size a.strides b.strides && same_size a.offset b.offset
+same_layout None None = true
+same_layout _ _ = false
+
+-- two types of values; vectors aren't taken yet
+abbrev pub same_type : TypeText → TypeText → Bool
+same_type (Scalar a) (Scalar b) = bytes_eq a b
+same_type (MemRef sizes elem layout) (MemRef others name placed) = pointwise same_size sizes others && bytes_eq elem name && same_layout layout placed
+same_type _ _ = false

@@ -29,17 +29,22 @@ use std::alloc::{AllocError, Global};
 const MAX_RESULTS: usize = 8;
 
 /// A load: its operands are the buffer and the values in the subscripts.
-pub(crate) fn load(scope: &mut Scope, node: &Node, number: No) -> Result<Op, VerifyRefusal>
+pub(crate) fn load(
+    alloc: Global,
+    scope: &mut Scope,
+    node: &Node,
+    number: No,
+) -> Result<Op, VerifyRefusal>
     ensures op { Asked number (first_failing (load_rules scope.old node.now)) result (λ op. op ≡ load_op scope.old node.now number) }
     ensures scope { OnOk result (scope.new ≡ defined scope.old (result_name node.now) (Scalar (loaded_elem scope.old node.now)) Plain) }
 {
-    let name = result_name(scope.alloc, node)?;
-    let values = values_named(scope.alloc, &scope.names, node.operands.as_slice())?;
+    let name = result_name(alloc, node)?;
+    let values = values_named(alloc, &scope.names, node.operands.as_slice())?;
     ask_load(scope, node, name.as_slice(), values.as_slice(), number)?;
     let elem = elem_at(scope.values.as_slice(), values.as_slice(), 0);
-    let used = used_map(scope.alloc, node, values.as_slice(), 1)?;
+    let used = used_map(alloc, node, values.as_slice(), 1)?;
     let result = define(scope, name, Ty::Scalar(elem), Role::Plain)?;
-    Ok(load_with(scope.alloc, number, result, node, used)?)
+    Ok(load_with(alloc, number, result, node, used)?)
 }
 
 fn load_with(
@@ -144,13 +149,18 @@ fn load_agrees(values: &[Ty], node: &Node, operands: &[ValueId]) -> bool
 }
 
 /// A store: its operands are the value, the buffer and the values in the subscripts.
-pub(crate) fn store(scope: &Scope, node: &Node, number: No) -> Result<Op, VerifyRefusal>
+pub(crate) fn store(
+    alloc: Global,
+    scope: &Scope,
+    node: &Node,
+    number: No,
+) -> Result<Op, VerifyRefusal>
     ensures { Asked number (first_failing (store_rules scope.now node.now)) result (λ op. op ≡ store_op scope.now node.now number) }
 {
-    let values = values_named(scope.alloc, &scope.names, node.operands.as_slice())?;
+    let values = values_named(alloc, &scope.names, node.operands.as_slice())?;
     ask_store(scope, node, values.as_slice(), number)?;
-    let used = used_map(scope.alloc, node, values.as_slice(), 2)?;
-    Ok(store_with(scope.alloc, number, node, used))
+    let used = used_map(alloc, node, values.as_slice(), 2)?;
+    Ok(store_with(alloc, number, node, used))
 }
 
 fn store_with(alloc: Global, number: No, node: &Node, used: MapUse) -> Op

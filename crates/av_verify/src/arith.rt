@@ -25,19 +25,24 @@ use av_tree::{Attr, Node, TypeText};
 use std::alloc::{AllocError, Global};
 
 /// A constant: one number of a scalar type.
-pub(crate) fn constant(scope: &mut Scope, node: &Node, number: No) -> Result<Op, VerifyRefusal>
+pub(crate) fn constant(
+    alloc: Global,
+    scope: &mut Scope,
+    node: &Node,
+    number: No,
+) -> Result<Op, VerifyRefusal>
     ensures op { Asked number (first_failing (constant_rules scope.old node.now)) result (λ op. op ≡ constant_op scope.old node.now number) }
     ensures scope { OnOk result (scope.new ≡ defined scope.old (result_name node.now) (Scalar (constant_elem node.now)) Plain) }
 {
-    let name = result_name(scope.alloc, node)?;
+    let name = result_name(alloc, node)?;
     ask_constant(scope, node, name.as_slice(), number)?;
     let elem = constant_elem(node);
     let pattern = wrap(width(elem), number_in(node, b"value").unwrap_or(0));
     let result = define(scope, name, Ty::Scalar(elem), Role::Plain)?;
-    let results = only(scope.alloc, result)?;
+    let results = only(alloc, result)?;
     let kind = OpKind::ArithConstant(Const::Splat(pattern));
-    let none = Seq::new(scope.alloc);
-    Ok(op_of(number, kind, none, results, Seq::new(scope.alloc), NO_MARKS))
+    let none = Seq::new(alloc);
+    Ok(op_of(number, kind, none, results, Seq::new(alloc), NO_MARKS))
 }
 
 fn ask_constant(scope: &Scope, node: &Node, name: &[u8], number: No) -> Result<(), VerifyRefusal>
@@ -136,6 +141,7 @@ fn fits(width: Width, value: i128) -> bool
 
 /// A binary operation on scalars.
 pub(crate) fn binary(
+    alloc: Global,
     scope: &mut Scope,
     node: &Node,
     op: BinOp,
@@ -144,8 +150,8 @@ pub(crate) fn binary(
     ensures op { Asked number (first_failing (binary_rules op scope.old node.now)) result (λ made. made ≡ binary_op op scope.old node.now number) }
     ensures scope { OnOk result (scope.new ≡ defined scope.old (result_name node.now) (Scalar (left_elem scope.old node.now)) Plain) }
 {
-    let name = result_name(scope.alloc, node)?;
-    let operands = values_named(scope.alloc, &scope.names, node.operands.as_slice())?;
+    let name = result_name(alloc, node)?;
+    let operands = values_named(alloc, &scope.names, node.operands.as_slice())?;
     ask_binary(
         scope,
         node,
@@ -156,16 +162,9 @@ pub(crate) fn binary(
     )?;
     let elem = left_elem(scope.values.as_slice(), operands.as_slice());
     let result = define(scope, name, Ty::Scalar(elem), Role::Plain)?;
-    let results = only(scope.alloc, result)?;
+    let results = only(alloc, result)?;
     let kind = OpKind::ArithBinary(op);
-    Ok(op_of(
-        number,
-        kind,
-        operands,
-        results,
-        Seq::new(scope.alloc),
-        NO_MARKS,
-    ))
+    Ok(op_of(number, kind, operands, results, Seq::new(alloc), NO_MARKS))
 }
 
 fn ask_binary(

@@ -1,25 +1,29 @@
 //! The module and its functions.
 
-ghost use Rattle.std.specs.Prelude.{◌≡◌};
+ghost use Rattle.std.specs.Prelude.{◌≡◌, ◌&&◌, ◌-◌, ◌^◌, min, map, sum, Some, IfOk};
+ghost use Rattle.std.specs.Cmp.Lexicographic.{pointwise};
 ghost use Rattle.std.specs.List.{list_all};
 ghost use Rattle.std.specs.Option.{option_copied};
-ghost use Rattle.av_verify.specs.Modules.{are_within_limits, goes_on, has_function_entries, has_plain_region, is_symbol, is_symbol_byte, name_of, results_of};
-ghost use Rattle.av_verify.specs.Types.{is_within_limits};
+ghost use Rattle.av_tree.specs.declared.node.Body.{out-Body};
+ghost use Rattle.av_verify.specs.Codes.{Asked, first_failing};
+ghost use Rattle.av_verify.specs.Elaboration.{Elaborates, Ends, elaborated, function_of, module_of};
+ghost use Rattle.av_verify.specs.Modules.{are_inputs, are_within_limits, func_of, function_rules, goes_on, has_function_entries, has_function_types, has_plain_region, inputs_of, is_function, is_module, is_symbol, is_symbol_byte, is_within_size, module_rules, most_regions, name_of, only_function, only_node, operations_in, operations_within, results_of};
+ghost use Rattle.av_verify.specs.Types.{is_type, is_within_limits, same_type};
 
 use super::entries::{entry, has_good_entries, has_needed};
 use super::form::gives_nothing;
 use super::loops::{are_new, end_with};
-use super::operations::{NO_MARKS, region};
-use super::refusal::{Code, VerifyRefusal, ask_all, asks};
+use super::operations::{NO_MARKS, only_region};
+use super::refusal::{Code, VerifyRefusal, ask_all, asks, bad};
 use super::results::has_no_result;
 use super::rows::{Row, row_of};
 use super::scope::{Role, Scope, new_scope, take_number};
-use super::types::{is_type, is_within_limits};
+use super::types::{is_type, is_within_limits, same_type};
 use av_affine::{No, Seq, duplicate_all};
-use av_ir::{Func, Module, Region};
+use av_ir::{Func, Module, Region, Ty};
 use av_shapes::Shape;
-use av_tree::{Attr, BodyArg, Node, Tree, TypeText};
-use std::alloc::Global;
+use av_tree::{Attr, Body, BodyArg, Node, Tree, TypeText};
+use std::alloc::{AllocError, Global};
 
 /// What a tree is checked for.
 #[derive(Debug, Drop)]
@@ -40,15 +44,31 @@ const MAX_SIZE: u64 = 0x8_0000;
 /// # Errors
 ///
 /// A rule fails, at the operation and with the code that the refusal names; or memory lacks.
-pub fn verify(alloc: Global, tree: &Tree, mode: &Mode) -> Result<Module, VerifyRefusal> {
-    ask_module(tree, mode)?;
+pub fn verify(alloc: Global, tree: &Tree, mode: &Mode) -> Result<Module, VerifyRefusal>
+    ensures { Ends (elaborated tree.now mode.now) result }
+{
+    ask_module(&tree.root, mode)?;
+    module_of(alloc, mode, only_function(&tree.root))
+}
+
+fn module_of(alloc: Global, mode: &Mode, node: Option<&Node>) -> Result<Module, VerifyRefusal>
+    ensures { Ends (module_of mode.now (option_copied node.entry)) result }
+{
+    match node {
+        Some(node) => module_with(alloc, mode, node),
+        None => Err(bad(0, Code::Place)),
+    }
+}
+
+fn module_with(alloc: Global, mode: &Mode, node: &Node) -> Result<Module, VerifyRefusal>
+    ensures { Ends (module_of mode.now (Some node.now)) result }
+{
     let mut scope = new_scope(alloc);
     // The module's own number.
     let _module = take_number(&mut scope.owners, 0)?;
+    let func = function(alloc, &mut scope, node, most_regions(mode))?;
     let mut funcs = Seq::new(alloc);
-    if let Some(node) = only_function(&tree.root) {
-        funcs.push(function(&mut scope, node, mode)?)?;
-    }
+    funcs.push(func)?;
     Ok(Module {
         funcs,
         owners: scope.owners,
@@ -56,41 +76,62 @@ pub fn verify(alloc: Global, tree: &Tree, mode: &Mode) -> Result<Module, VerifyR
 }
 
 // The regions that may be open within a function's.
-fn most_regions(mode: &Mode) -> u32 {
+fn most_regions(mode: &Mode) -> u32
+    ensures { result ≡ most_regions mode.now }
+{
     match mode {
         Mode::Scalar(_) => 30,
         Mode::Vector | Mode::Run => 38,
     }
 }
 
-fn is_within_size(tree: &Tree, mode: &Mode) -> bool {
-    let lanes = match mode {
-        Mode::Scalar(shape) => shape.lanes(1),
-        Mode::Vector => 1,
-        Mode::Run => return true,
-    };
-    operations_in(&tree.root).saturating_mul(u64::from(lanes)) <= MAX_SIZE
+fn is_within_size(root: &Node, mode: &Mode) -> bool
+    ensures { result ≡ is_within_size root.now mode.now }
+{
+    match mode {
+        Mode::Scalar(shape) => operations_in(root).saturating_mul(u64::from(shape.lanes(1)))
+            <= MAX_SIZE,
+        Mode::Vector => operations_in(root) <= MAX_SIZE,
+        Mode::Run => true,
+    }
 }
 
-// The number of operations in a node, itself included.
-fn operations_in(node: &Node) -> u64 {
-    let mut sum: u64 = 1;
-    for body in node.regions.as_slice() {
-        for inner in body.nodes.as_slice() {
-            sum = sum.saturating_add(operations_in(inner));
-        }
+// The number of operations in a node, itself included, or the greatest number.
+#[cycle(counting)]
+fn operations_in(node: &Node) -> u64
+    ensures { result ≡ min (operations_in node.now) (2 ^ 64 - 1) }
+{
+    operations_within(node.regions.as_slice()).saturating_add(1)
+}
+
+#[cycle(counting)]
+fn operations_within(bodies: &[Body]) -> u64
+    ensures { result ≡ min (sum (map operations_within bodies.now)) (2 ^ 64 - 1) }
+{
+    let mut count: u64 = 0;
+    for body in bodies {
+        count = count.saturating_add(operations_of(body.nodes.as_slice()));
     }
-    sum
+    count
+}
+
+#[cycle(counting)]
+fn operations_of(nodes: &[Node]) -> u64
+    ensures { result ≡ min (sum (map operations_in nodes.now)) (2 ^ 64 - 1) }
+{
+    let mut count: u64 = 0;
+    for node in nodes {
+        count = count.saturating_add(operations_in(node));
+    }
+    count
 }
 
 // The name and the attributes of the module are dropped.
-fn ask_module(tree: &Tree, mode: &Mode) -> Result<(), VerifyRefusal> {
-    let root = &tree.root;
+fn ask_module(root: &Node, mode: &Mode) -> Result<(), VerifyRefusal>
+    ensures { Asked 0 (first_failing (module_rules root.now mode.now)) result (λ u. Unit {0}) }
+{
     let rules = [
-        asks(
-            Code::Name,
-            matches!(row_of(root.name.as_slice()), Some(Row::Module)),
-        ),
+        asks(Code::Name, is_module(row_of(root.name.as_slice()))),
         asks(Code::Operands, root.operands.as_slice().is_empty()),
         asks(Code::Results, has_no_result(root)),
         asks(
@@ -100,18 +141,38 @@ fn ask_module(tree: &Tree, mode: &Mode) -> Result<(), VerifyRefusal> {
         asks(Code::Regions, has_plain_region(root)),
         // More functions aren't taken yet.
         asks(Code::Place, only_function(root).is_some()),
-        asks(Code::Size, is_within_size(tree, mode)),
+        asks(Code::Size, is_within_size(root, mode)),
     ];
     ask_all(&rules, 0)
 }
 
+fn is_module(row: Option<Row>) -> bool
+    ensures { result ≡ is_module row }
+{
+    matches!(row, Some(Row::Module))
+}
+
+fn is_function(row: Option<Row>) -> bool
+    ensures { result ≡ is_function row }
+{
+    matches!(row, Some(Row::Function))
+}
+
 // The one operation in the module.
-fn only_function(root: &Node) -> Option<&Node> {
+fn only_function(root: &Node) -> Option<&Node>
+    ensures { option_copied result ≡ only_function root.now }
+{
     match root.regions.as_slice() {
-        [body] => match body.nodes.as_slice() {
-            [node] => Some(node),
-            _ => None,
-        },
+        [body] => only_node(body.nodes.as_slice()),
+        _ => None,
+    }
+}
+
+fn only_node(nodes: &[Node]) -> Option<&Node>
+    ensures { option_copied result ≡ only_node nodes.now }
+{
+    match nodes {
+        [node] => Some(node),
         _ => None,
     }
 }
@@ -126,37 +187,41 @@ fn has_plain_region(node: &Node) -> bool
     }
 }
 
-fn function(scope: &mut Scope, node: &Node, mode: &Mode) -> Result<Func, VerifyRefusal> {
+// A function, in whose region so many more regions may be opened.
+fn function(alloc: Global, scope: &mut Scope, node: &Node, room: u32) -> Result<Func, VerifyRefusal>
+    ensures { Elaborates (function_of room scope.old node.now) result scope.new }
+{
     let number = take_number(&mut scope.owners, 0)?;
-    let new = are_new(scope.alloc, &scope.names, node.regions.as_slice())?;
+    let new = are_new(alloc, &scope.names, node.regions.as_slice())?;
     ask_function(node, new, number)?;
-    let body = function_region(scope, node, most_regions(mode))?;
+    let body = only_region(alloc, scope, node.regions.as_slice(), Role::Plain, room)?;
+    Ok(func_of(alloc, node, number, scope.values.as_slice(), body)?)
+}
+
+fn func_of(
+    alloc: Global,
+    node: &Node,
+    number: No,
+    values: &[Ty],
+    body: Region,
+) -> Result<Func, AllocError>
+    ensures { IfOk result (λ func. func ≡ func_of node.now number values.now body) }
+{
     Ok(Func {
-        name: Seq::from_slice(scope.alloc, name_of(node))?,
+        name: Seq::from_slice(alloc, name_of(node))?,
         number,
-        values: duplicate_all(scope.alloc, scope.values.as_slice())?,
-        results: Seq::new(scope.alloc),
+        values: duplicate_all(alloc, values)?,
+        results: Seq::new(alloc),
         body,
         marks: NO_MARKS,
     })
 }
 
-fn function_region(scope: &mut Scope, node: &Node, room: u32) -> Result<Region, VerifyRefusal> {
-    match node.regions.as_slice() {
-        [body] => region(scope, body, Role::Plain, room),
-        _ => Ok(Region {
-            args: Seq::new(scope.alloc),
-            ops: Seq::new(scope.alloc),
-        }),
-    }
-}
-
-fn ask_function(node: &Node, new: bool, number: No) -> Result<(), VerifyRefusal> {
+fn ask_function(node: &Node, new: bool, number: No) -> Result<(), VerifyRefusal>
+    ensures { Asked number (first_failing (function_rules new node.now)) result (λ u. Unit {0}) }
+{
     let rules = [
-        asks(
-            Code::Name,
-            matches!(row_of(node.name.as_slice()), Some(Row::Function)),
-        ),
+        asks(Code::Name, is_function(row_of(node.name.as_slice()))),
         asks(Code::Operands, node.operands.as_slice().is_empty()),
         asks(Code::Results, has_no_result(node)),
         asks(Code::New, new),
@@ -167,7 +232,7 @@ fn ask_function(node: &Node, new: bool, number: No) -> Result<(), VerifyRefusal>
             Code::Terminator,
             end_with(node.regions.as_slice(), b"func.return"),
         ),
-        asks(Code::Regions, node.regions.len() == 1),
+        asks(Code::Regions, node.regions.as_slice().len() == 1),
         asks(Code::Limit, are_within_limits(node)),
         // Functions give no results yet.
         asks(Code::Place, gives_nothing(entry(node, b"function_type"))),
@@ -183,30 +248,60 @@ fn has_function_entries(node: &Node) -> bool
         && results_of(entry(node, b"function_type")).is_some()
 }
 
-fn has_function_types(node: &Node) -> bool {
-    for body in node.regions.as_slice() {
-        let args = body.args.as_slice();
-        for arg in args {
-            if !is_type(&arg.ty) {
-                return false;
-            }
-        }
-        if let Some(Attr::Type(TypeText::Func { inputs, .. })) = entry(node, b"function_type") {
-            if !are_types_of(inputs.as_slice(), args) {
-                return false;
-            }
-        }
-    }
-    node.in_types.is_empty() && node.out_types.is_empty()
+fn has_function_types(node: &Node) -> bool
+    ensures { result ≡ has_function_types node.now }
+{
+    have_types(
+        node.regions.as_slice(),
+        inputs_of(entry(node, b"function_type")),
+    ) && node.in_types.as_slice().is_empty()
+        && node.out_types.as_slice().is_empty()
 }
 
-fn are_types_of(types: &[TypeText], args: &[BodyArg]) -> bool {
-    for (ty, arg) in types.iter().zip(args) {
-        if *ty != arg.ty {
+fn have_types(bodies: &[Body], inputs: Option<&[TypeText]>) -> bool
+    ensures { result ≡ list_all (λ body. list_all (λ arg. is_type arg.ty) (out-Body body).args && are_inputs (option_copied inputs.entry) (out-Body body).args) bodies.now }
+{
+    bodies.iter().all(|body| are_types(body.args.as_slice())
+        && are_inputs(inputs, body.args.as_slice()))
+}
+
+fn are_types(args: &[BodyArg]) -> bool
+    ensures { result ≡ list_all (λ arg. is_type arg.ty) args.now }
+{
+    args.iter().all(|arg| is_type(&arg.ty))
+}
+
+fn are_inputs(inputs: Option<&[TypeText]>, args: &[BodyArg]) -> bool
+    ensures { result ≡ are_inputs (option_copied inputs.entry) args.now }
+{
+    match inputs {
+        Some(types) => are_of_types(types, args),
+        None => true,
+    }
+}
+
+fn are_of_types(types: &[TypeText], args: &[BodyArg]) -> bool
+    ensures { result ≡ pointwise (λ ty arg. same_type ty arg.ty) types.now args.now }
+{
+    if types.len() != args.len() {
+        return false;
+    }
+    for at in 0..types.len() {
+        if !same_type(&types[at], &args[at].ty) {
             return false;
         }
     }
-    types.len() == args.len()
+    true
+}
+
+// The types of the arguments of a function type.
+fn inputs_of(ty: Option<&Attr>) -> Option<&[TypeText]>
+    ensures { option_copied result ≡ inputs_of (option_copied ty.entry) }
+{
+    match ty {
+        Some(Attr::Type(TypeText::Func { inputs, .. })) => Some(inputs.as_slice()),
+        _ => None,
+    }
 }
 
 // Whether the types of all arguments are within their limits.

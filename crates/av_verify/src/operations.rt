@@ -1,10 +1,15 @@
 //! Operations and regions, in the order of the text.
 
-ghost use Rattle.std.specs.Prelude.{◌≡◌};
+ghost use Rattle.std.specs.Prelude.{◌≡◌, ◌+◌, [], length, unwrap_or, IfOk, OnOk};
+ghost use Rattle.av_ir.specs.declared.ty.Elem.TheVariants.{Index};
+ghost use Rattle.av_ir.specs.declared.ty.Ty.TheVariants.{Scalar};
 ghost use Rattle.av_verify.specs.Arith.{operands_of};
 ghost use Rattle.av_verify.specs.Codes.{Asked, first_failing};
+ghost use Rattle.av_verify.specs.Elaboration.{Elaborates, argument_values, in_order, known_with, loop_of, only_region, operation_with, region_of, region_with, with_arguments};
 ghost use Rattle.av_verify.specs.Ends.{end_agrees, end_kind, end_op, end_rules};
 ghost use Rattle.av_verify.specs.Ops.{op_of};
+ghost use Rattle.av_verify.specs.Scopes.{defined, next_value};
+ghost use Rattle.av_verify.specs.Types.{type_of};
 
 use super::access::{load, store};
 use super::arith::{binary, constant};
@@ -19,7 +24,7 @@ use super::types::type_of;
 use av_affine::{No, Seq};
 use av_ir::{Elem, Marks, Op, OpKind, Region, Ty, ValueId};
 use av_tree::{Body, BodyArg, Node};
-use std::alloc::AllocError;
+use std::alloc::{AllocError, Global};
 
 /// The marks of an operation that has none.
 pub(crate) const NO_MARKS: Marks = Marks {
@@ -50,80 +55,194 @@ pub(crate) fn op_of(
     }
 }
 
-/// A region, in which so many more regions may be opened.
+/// The one region of an operation, in which so many more regions may be opened; nothing where there isn't one.
 #[cycle(elaborating)]
-pub(crate) fn region(
+pub(crate) fn only_region(
+    alloc: Global,
+    scope: &mut Scope,
+    bodies: &[Body],
+    role: Role,
+    room: u32,
+) -> Result<Region, VerifyRefusal>
+    ensures { Elaborates (only_region (region_with (operation_with (loop_of room)) role) scope.old bodies.now) result scope.new }
+{
+    match bodies {
+        [body] => region(alloc, scope, body, role, room),
+        _ => Ok(region_of(Seq::new(alloc), Seq::new(alloc))),
+    }
+}
+
+fn region_of(args: Seq<ValueId>, ops: Seq<Op>) -> Region
+    ensures { result ≡ region_of args ops }
+{
+    Region { args, ops }
+}
+
+#[cycle(elaborating)]
+fn region(
+    alloc: Global,
     scope: &mut Scope,
     body: &Body,
     role: Role,
     room: u32,
-) -> Result<Region, VerifyRefusal> {
+) -> Result<Region, VerifyRefusal>
+    ensures { Elaborates (region_with (operation_with (loop_of room)) role scope.old body.now) result scope.new }
+{
     let outer = scope.names.len();
-    let args = add_arguments(scope, body.args.as_slice(), role)?;
-    let nodes = body.nodes.as_slice();
-    let mut ops = Seq::new(scope.alloc);
-    for (at, node) in nodes.iter().enumerate() {
-        let op = operation(scope, node, at + 1 == nodes.len(), room)?;
+    let args = add_arguments(alloc, scope, body.args.as_slice(), role)?;
+    let ops = operations(alloc, scope, body.nodes.as_slice(), room)?;
+    scope.names.truncate(outer);
+    Ok(region_of(args, ops))
+}
+
+#[cycle(elaborating)]
+fn operations(
+    alloc: Global,
+    scope: &mut Scope,
+    nodes: &[Node],
+    room: u32,
+) -> Result<Seq<Op>, VerifyRefusal>
+    ensures { Elaborates (in_order (operation_with (loop_of room)) [] scope.old nodes.now) result scope.new }
+{
+    let mut ops = Seq::new(alloc);
+    for at in 0..nodes.len() {
+        let op = operation(alloc, scope, &nodes[at], nodes.len() - at == 1, room)?;
         ops.push(op)?;
     }
-    scope.names.truncate(outer);
-    Ok(Region { args, ops })
+    Ok(ops)
 }
 
 // The values of the arguments of a region.
 fn add_arguments(
+    alloc: Global,
     scope: &mut Scope,
     args: &[BodyArg],
     role: Role,
-) -> Result<Seq<ValueId>, AllocError> {
-    let mut values = Seq::new(scope.alloc);
+) -> Result<Seq<ValueId>, AllocError>
+    ensures values { IfOk result (λ values. values ≡ argument_values (length scope.old.values) args.now) }
+    ensures scope { OnOk result (scope.new ≡ with_arguments scope.old role args.now) }
+{
+    let mut values = Seq::new(alloc);
     for arg in args {
-        let name = Vec::from_slice(scope.alloc, arg.name.as_slice())?;
-        let ty = type_of(scope.alloc, &arg.ty)?.unwrap_or(Ty::Scalar(Elem::Index));
-        let value = define(scope, name, ty, role)?;
+        let value = add_argument(alloc, scope, arg, role)?;
         values.push(value)?;
     }
     Ok(values)
 }
 
+fn add_argument(
+    alloc: Global,
+    scope: &mut Scope,
+    arg: &BodyArg,
+    role: Role,
+) -> Result<ValueId, AllocError>
+    ensures value { IfOk result (λ value. value ≡ next_value scope.old) }
+    ensures scope { OnOk result (scope.new ≡ defined scope.old arg.now.name (unwrap_or (type_of arg.now.ty) (Scalar Index)) role) }
+{
+    let name = Vec::from_slice(alloc, arg.name.as_slice())?;
+    let ty = type_of(alloc, &arg.ty)?.unwrap_or(Ty::Scalar(Elem::Index));
+    define(scope, name, ty, role)
+}
+
 // An operation in a region, at its end or not.
 #[cycle(elaborating)]
 fn operation(
+    alloc: Global,
     scope: &mut Scope,
     node: &Node,
     is_last: bool,
     room: u32,
-) -> Result<Op, VerifyRefusal> {
+) -> Result<Op, VerifyRefusal>
+    ensures { Elaborates (operation_with (loop_of room) is_last scope.old node.now) result scope.new }
+{
     let number = take_number(&mut scope.owners, 0)?;
     match row_of(node.name.as_slice()) {
-        Some(Row::Constant) => constant(scope, node, number),
-        Some(Row::Binary(op)) => binary(scope, node, op, number),
-        Some(Row::Loop) => affine_for(scope, node, room, number),
-        Some(Row::Load) => load(scope, node, number),
-        Some(Row::Store) => store(scope, node, number),
-        Some(Row::Return) => terminator(scope, node, Row::Return, is_last, number),
-        Some(Row::Yield) => terminator(scope, node, Row::Yield, is_last, number),
-        Some(Row::Module | Row::Function) => Err(bad(number, Code::Place)),
+        Some(row) => known(alloc, scope, node, row, is_last, room, number),
         None => Err(bad(number, Code::Name)),
     }
 }
 
 #[cycle(elaborating)]
-fn affine_for(scope: &mut Scope, node: &Node, room: u32, number: No) -> Result<Op, VerifyRefusal> {
-    let values = values_named(scope.alloc, &scope.names, node.operands.as_slice())?;
-    let new = are_new(scope.alloc, &scope.names, node.regions.as_slice())?;
-    ask_loop(scope, node, values.as_slice(), new, room > 0, number)?;
-    let mut regions = Seq::new(scope.alloc);
-    for body in node.regions.as_slice() {
-        let region = region(scope, body, Role::Dimension, room.saturating_sub(1))?;
-        regions.push(region)?;
+fn known(
+    alloc: Global,
+    scope: &mut Scope,
+    node: &Node,
+    row: Row,
+    is_last: bool,
+    room: u32,
+    number: No,
+) -> Result<Op, VerifyRefusal>
+    ensures { Elaborates (known_with (loop_of room) row number is_last scope.old node.now) result scope.new }
+{
+    match row {
+        Row::Constant => constant(alloc, scope, node, number),
+        Row::Binary(op) => binary(alloc, scope, node, op, number),
+        Row::Load => load(alloc, scope, node, number),
+        Row::Store => store(alloc, scope, node, number),
+        Row::Return => terminator(alloc, scope, node, Row::Return, is_last, number),
+        Row::Yield => terminator(alloc, scope, node, Row::Yield, is_last, number),
+        Row::Module => Err(bad(number, Code::Place)),
+        Row::Function => Err(bad(number, Code::Place)),
+        Row::Loop => affine_for(alloc, scope, node, room, number),
     }
-    Ok(loop_op(scope.alloc, node, values.as_slice(), regions, number)?)
+}
+
+#[cycle(elaborating)]
+fn affine_for(
+    alloc: Global,
+    scope: &mut Scope,
+    node: &Node,
+    room: u32,
+    number: No,
+) -> Result<Op, VerifyRefusal>
+    ensures { Elaborates (loop_of room number scope.old node.now) result scope.new }
+{
+    if room == 0 {
+        loop_without_room(alloc, scope, node, number)
+    } else {
+        loop_with_room(alloc, scope, node, room - 1, number)
+    }
+}
+
+// No region may be opened: a loop fails by this limit at the latest.
+fn loop_without_room(
+    alloc: Global,
+    scope: &Scope,
+    node: &Node,
+    number: No,
+) -> Result<Op, VerifyRefusal>
+    ensures { Elaborates (loop_of 0 number scope.now node.now) result scope.now }
+{
+    let values = values_named(alloc, &scope.names, node.operands.as_slice())?;
+    let new = are_new(alloc, &scope.names, node.regions.as_slice())?;
+    ask_loop(scope, node, values.as_slice(), new, false, number)?;
+    Err(bad(number, Code::Limit))
+}
+
+// In the loop's region so many more may be opened.
+#[cycle(elaborating)]
+fn loop_with_room(
+    alloc: Global,
+    scope: &mut Scope,
+    node: &Node,
+    room: u32,
+    number: No,
+) -> Result<Op, VerifyRefusal>
+    ensures { Elaborates (loop_of (room + 1) number scope.old node.now) result scope.new }
+{
+    let values = values_named(alloc, &scope.names, node.operands.as_slice())?;
+    let new = are_new(alloc, &scope.names, node.regions.as_slice())?;
+    ask_loop(scope, node, values.as_slice(), new, true, number)?;
+    let inside = only_region(alloc, scope, node.regions.as_slice(), Role::Dimension, room)?;
+    let mut regions = Seq::new(alloc);
+    regions.push(inside)?;
+    Ok(loop_op(alloc, node, values.as_slice(), regions, number)?)
 }
 
 // An operation that ends a region, without operands. That it is of the region's own kind is asked at
 // the operation around it.
 fn terminator(
+    alloc: Global,
     scope: &Scope,
     node: &Node,
     row: Row,
@@ -132,10 +251,10 @@ fn terminator(
 ) -> Result<Op, VerifyRefusal>
     ensures { Asked number (first_failing (end_rules row is_last scope.now node.now)) result (λ op. op ≡ end_op row scope.now node.now number) }
 {
-    let operands = values_named(scope.alloc, &scope.names, node.operands.as_slice())?;
+    let operands = values_named(alloc, &scope.names, node.operands.as_slice())?;
     ask_terminator(scope, node, row, operands.as_slice(), is_last, number)?;
-    let none = Seq::new(scope.alloc);
-    let regions = Seq::new(scope.alloc);
+    let none = Seq::new(alloc);
+    let regions = Seq::new(alloc);
     Ok(op_of(number, end_kind(row), operands, none, regions, NO_MARKS))
 }
 

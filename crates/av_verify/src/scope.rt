@@ -3,7 +3,7 @@
 ghost use Rattle.std.specs.Prelude.{◌≡◌, ◌++◌, ◌∷◌, [], length, IfOk, OnOk};
 ghost use Rattle.std.specs.Cmp.Lexicographic.{pointwise};
 ghost use Rattle.std.specs.Option.{option_copied};
-ghost use Rattle.av_verify.specs.Scopes.{agrees_at, defined, is_dimension, next_value, type_at};
+ghost use Rattle.av_verify.specs.Scopes.{agrees_at, defined, first_scope, is_dimension, next_value, type_at};
 
 use super::names::Names;
 use super::types::agrees;
@@ -23,8 +23,6 @@ pub(crate) enum Role {
 /// The values of the function that is under way, and the names that are visible in it.
 #[derive(Drop)]
 pub(crate) struct Scope {
-    /// Where memory comes from.
-    pub(crate) alloc: Global,
     /// The visible names, in the order of their definitions.
     pub(crate) names: Names,
     /// The types of all values of the function, visible or not.
@@ -36,9 +34,10 @@ pub(crate) struct Scope {
 }
 
 /// Nothing but an open module.
-pub(crate) fn new_scope(alloc: Global) -> Scope {
+pub(crate) fn new_scope(alloc: Global) -> Scope
+    ensures { result ≡ first_scope }
+{
     Scope {
-        alloc,
         names: Names::new(alloc),
         values: Seq::new(alloc),
         roles: Seq::new(alloc),

@@ -1,15 +1,17 @@
 //! Types as they are written, and the types of values.
 
-ghost use Rattle.std.specs.Prelude.{◌≡◌, true, IfOk};
+ghost use Rattle.std.specs.Prelude.{◌≡◌, true, Some, IfOk};
 ghost use Rattle.std.specs.Cmp.Lexicographic.{pointwise};
 ghost use Rattle.std.specs.List.{list_all};
 ghost use Rattle.std.specs.Option.{SomeIff};
-ghost use Rattle.av_verify.specs.Types.{agrees, elem_of, extent_of, extents_of, is_elem, is_extent, is_small, is_type, is_within_limits, memref_of, names_elem, scalar_of, type_of, written_scalar};
+ghost use Rattle.av_tree.specs.declared.written.SizeText.TheVariants.{Dynamic, Fixed};
+ghost use Rattle.av_tree.specs.declared.written.TypeText.{MemRef, Scalar};
+ghost use Rattle.av_verify.specs.Types.{agrees, elem_of, extent_of, extents_of, is_elem, is_extent, is_small, is_type, is_within_limits, memref_of, names_elem, same_layout, same_size, same_type, scalar_of, type_of, written_scalar};
 
 use av_affine::Seq;
 use av_bits::Width;
 use av_ir::{Elem, Extent, Ty};
-use av_tree::{SizeText, TypeText};
+use av_tree::{LayoutText, SizeText, TypeText};
 use std::alloc::{AllocError, Global};
 
 /// The greatest number of sizes of a memref type.
@@ -96,6 +98,102 @@ fn is_small(size: SizeText) -> bool
         SizeText::Fixed(size) => size <= MAX_SIZE,
         SizeText::Dynamic => true,
     }
+}
+
+/// Whether two types of values are written alike. Vectors aren't taken yet.
+pub(crate) fn same_type(a: &TypeText, b: &TypeText) -> bool
+    ensures { result ≡ same_type a.now b.now }
+{
+    match a {
+        TypeText::Scalar(name) => is_scalar(b, name.as_slice()),
+        TypeText::MemRef {
+            sizes,
+            elem,
+            layout,
+        } => is_memref(b, sizes.as_slice(), elem.as_slice(), layout),
+        _ => false,
+    }
+}
+
+fn is_scalar(ty: &TypeText, name: &[u8]) -> bool
+    ensures { result ≡ same_type (Scalar name.now) ty.now }
+{
+    match ty {
+        TypeText::Scalar(other) => name == other.as_slice(),
+        _ => false,
+    }
+}
+
+fn is_memref(ty: &TypeText, sizes: &[SizeText], elem: &[u8], layout: &Option<LayoutText>) -> bool
+    ensures { result ≡ same_type (MemRef sizes.now elem.now layout.now) ty.now }
+{
+    match ty {
+        TypeText::MemRef {
+            sizes: others,
+            elem: name,
+            layout: placed,
+        } => same_sizes(sizes, others.as_slice())
+            && elem == name.as_slice()
+            && same_layout(layout, placed),
+        _ => false,
+    }
+}
+
+fn same_layout(a: &Option<LayoutText>, b: &Option<LayoutText>) -> bool
+    ensures { result ≡ same_layout a.now b.now }
+{
+    match a {
+        Some(layout) => is_layout(b, layout),
+        None => b.is_none(),
+    }
+}
+
+fn is_layout(other: &Option<LayoutText>, layout: &LayoutText) -> bool
+    ensures { result ≡ same_layout (Some layout.now) other.now }
+{
+    match other {
+        Some(other) => same_sizes(layout.strides.as_slice(), other.strides.as_slice())
+            && same_size(layout.offset, other.offset),
+        None => false,
+    }
+}
+
+fn same_sizes(a: &[SizeText], b: &[SizeText]) -> bool
+    ensures { result ≡ pointwise same_size a.now b.now }
+{
+    if a.len() != b.len() {
+        return false;
+    }
+    for at in 0..a.len() {
+        if !same_size(a[at], b[at]) {
+            return false;
+        }
+    }
+    true
+}
+
+fn same_size(a: SizeText, b: SizeText) -> bool
+    ensures { result ≡ same_size a b }
+{
+    match a {
+        SizeText::Fixed(size) => is_fixed(b, size),
+        SizeText::Dynamic => is_dynamic(b),
+    }
+}
+
+fn is_fixed(size: SizeText, number: u128) -> bool
+    ensures { result ≡ same_size (Fixed number) size }
+{
+    match size {
+        SizeText::Fixed(other) => number == other,
+        SizeText::Dynamic => false,
+    }
+}
+
+fn is_dynamic(size: SizeText) -> bool
+    ensures { result ≡ same_size Dynamic size }
+{
+    matches!(size, SizeText::Dynamic)
 }
 
 /// The type that a written type is, where its sizes are small.

@@ -1,4 +1,4 @@
-use Rattle.std.proofs.Common.{◌≡◌, ◌∙◌, ap, sym, List, ℕ}
+use Rattle.std.proofs.Common.{◌∙◌, ap, sym, List, ℕ}
 use Rattle.av_verify.specs.Maps.{parameter, renamed}
 use Rattle.av_tree.specs.declared.written.ExprText.{ExprText}
 use Rattle.av_verify.proofs.TextVariants.{renamed-Name}

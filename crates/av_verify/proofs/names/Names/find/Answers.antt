@@ -1,4 +1,4 @@
-use Rattle.std.proofs.Common.{◌≡◌, ◌∙◌, ap, sym}
+use Rattle.std.proofs.Common.{◌∙◌, ap}
 use Rattle.av_verify.specs.Names.{value_named}
 use Rattle.av_verify.proofs.Bindings.{finds}
 use Rattle.av_verify.proofs.names.Names.find.Goals as goal

@@ -1,4 +1,4 @@
-use Rattle.std.proofs.Common.{◌≡◌, ◌∙◌, ap, sym, take}
+use Rattle.std.proofs.Common.{◌∙◌, ap, sym, take}
 use Rattle.std.specs.Prelude.{map}
 use Rattle.std.proofs.lemmas.List.{take-map}
 use Rattle.av_verify.specs.Names.{binds}
