@@ -51,6 +51,7 @@ pub fn verify(alloc: Global, tree: &Tree, mode: &Mode) -> Result<Module, VerifyR
     module_of(alloc, mode, only_function(&tree.root))
 }
 
+// The module of its one function.
 fn module_of(alloc: Global, mode: &Mode, node: Option<&Node>) -> Result<Module, VerifyRefusal>
     ensures { Ends (module_of mode.now (option_copied node.entry)) result }
 {
@@ -85,6 +86,7 @@ fn most_regions(mode: &Mode) -> u32
     }
 }
 
+// Whether the operations times the lanes of the shape are few enough.
 fn is_within_size(root: &Node, mode: &Mode) -> bool
     ensures { result ≡ is_within_size root.now mode.now }
 {
@@ -198,6 +200,7 @@ fn function(alloc: Global, scope: &mut Scope, node: &Node, room: u32) -> Result<
     Ok(func_of(alloc, node, number, scope.values.as_slice(), body)?)
 }
 
+// A function whose body has been walked: its scope has the types of all its values.
 fn func_of(
     alloc: Global,
     node: &Node,
@@ -217,6 +220,7 @@ fn func_of(
     })
 }
 
+// Asks the rules of a function; those of its body are asked there.
 fn ask_function(node: &Node, new: bool, number: No) -> Result<(), VerifyRefusal>
     ensures { Asked number (first_failing (function_rules new node.now)) result (λ u. Unit {0}) }
 {
@@ -258,6 +262,7 @@ fn has_function_types(node: &Node) -> bool
         && node.out_types.as_slice().is_empty()
 }
 
+// Whether the arguments have types of values, and those that the function type says.
 fn have_types(bodies: &[Body], inputs: Option<&[TypeText]>) -> bool
     ensures { result ≡ list_all (λ body. list_all (λ arg. is_type arg.ty) (out-Body body).args && are_inputs (option_copied inputs.entry) (out-Body body).args) bodies.now }
 {
@@ -271,6 +276,7 @@ fn are_types(args: &[BodyArg]) -> bool
     args.iter().all(|arg| is_type(&arg.ty))
 }
 
+// Where no function type is written, a later rule refuses.
 fn are_inputs(inputs: Option<&[TypeText]>, args: &[BodyArg]) -> bool
     ensures { result ≡ are_inputs (option_copied inputs.entry) args.now }
 {

@@ -78,6 +78,7 @@ fn region_of(args: Seq<ValueId>, ops: Seq<Op>) -> Region
     Region { args, ops }
 }
 
+// A region, whose names are visible in it alone.
 #[cycle(elaborating)]
 fn region(
     alloc: Global,
@@ -95,6 +96,7 @@ fn region(
     Ok(region_of(args, ops))
 }
 
+// The operations of a region, each in the scope after the one before it.
 #[cycle(elaborating)]
 fn operations(
     alloc: Global,
@@ -162,6 +164,7 @@ fn operation(
     }
 }
 
+// An operation of a known name.
 #[cycle(elaborating)]
 fn known(
     alloc: Global,
@@ -187,6 +190,7 @@ fn known(
     }
 }
 
+// A loop, where so many more regions may be opened.
 #[cycle(elaborating)]
 fn affine_for(
     alloc: Global,
