@@ -3,3 +3,5 @@ pub mod Outcome
 pub mod Number
 pub mod Intake
 pub mod Delivery
+pub mod Answer
+pub mod Answered

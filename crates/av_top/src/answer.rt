@@ -1,9 +1,11 @@
 //! The texts that answer a request.
 
-ghost use Rattle.std.specs.Prelude.{◌≤◌, length};
+ghost use Rattle.std.specs.Prelude.{◌≡◌, ◌≤◌, length, IfOk};
+ghost use Rattle.av_top.specs.Answer.{Answers, IsModuleOf, printed};
 
+use crate::report::report_of;
 use crate::request::Request;
-use av_affine::{No, Seq, Text};
+use av_affine::Text;
 use av_ir::{Module, inner_loops, marked};
 use av_lex::{LexFault, lex};
 use av_printer::{Form, spell};
@@ -69,58 +71,36 @@ impl From<VerifyRefusal> for Refusal {
 /// `NotBuilt` where the input is no text of the forms that are taken, `NoMemory` where memory lacks.
 pub fn answer(alloc: Global, request: Request, bytes: &[u8]) -> Result<Texts, Refusal>
     requires { (1 ≤ request.size) × (request.size ≤ 64) × (length bytes.now ≤ 1048576) }
-{
-    let module = module_of(alloc, request, bytes)?;
-    let module = marked(alloc, &module)?;
-    let tree = to_tree(alloc, &module)?;
-    let text = spell(alloc, &tree, Form::Named)?;
-    let report = report_of(alloc, &module)?;
-    Ok(Texts { text, report })
-}
-
-// The module of a text.
-fn module_of(alloc: Global, request: Request, bytes: &[u8]) -> Result<Module, Refusal>
-    requires { (1 ≤ request.size) × (request.size ≤ 64) × (length bytes.now ≤ 1048576) }
-{
-    let tree = tree_of(alloc, bytes)?;
-    if !is_first_path(&tree) {
-        return Err(Refusal::NotBuilt);
-    }
-    let mode = Mode::Scalar(Shape::new(alloc, &[request.size], false));
-    let module = verify(alloc, &tree, &mode)?;
-    Ok(module)
-}
-
-// The tree of a text.
-fn tree_of(alloc: Global, bytes: &[u8]) -> Result<Tree, Refusal>
-    requires { length bytes.now ≤ 1048576 }
+    ensures { IfOk result (λ texts. Answers request.size bytes.now texts.text) }
 {
     let tokens = lex(alloc, bytes)?;
     let tree = read(alloc, bytes, tokens.as_slice())?;
-    Ok(tree)
+    let module = module_of(alloc, request, &tree)?;
+    let texts = texts_of(alloc, &module)?;
+    Ok(texts)
 }
 
-// A line for each inner loop.
-fn report_of(alloc: Global, module: &Module) -> Result<Text, AllocError> {
-    let loops = inner_loops(alloc, module)?;
-    let mut report = Vec::new(alloc);
-    for inner in loops.as_slice() {
-        if let Some(func) = module.funcs.get(inner.func as usize) {
-            push_line(alloc, &mut report, func.name.as_slice(), inner.number)?;
-        }
+// What is written and reported for a module.
+fn texts_of(alloc: Global, module: &Module) -> Result<Texts, AllocError>
+    ensures { IfOk result (λ texts. texts.text ≡ printed «module».now) }
+{
+    let marked = marked(alloc, module)?;
+    let tree = to_tree(alloc, &marked)?;
+    let text = spell(alloc, &tree, Form::Named)?;
+    let loops = inner_loops(alloc, &marked)?;
+    let report = report_of(alloc, marked.funcs.as_slice(), loops.as_slice())?;
+    Ok(Texts { text, report })
+}
+
+// The module of a tree, if it has the forms that are taken.
+fn module_of(alloc: Global, request: Request, tree: &Tree) -> Result<Module, Refusal>
+    requires { (1 ≤ request.size) × (request.size ≤ 64) }
+    ensures { IfOk result (λ m. IsModuleOf request.size tree.now m) }
+{
+    if !is_first_path(tree) {
+        return Err(Refusal::NotBuilt);
     }
-    Ok(Seq::from_vec(report))
-}
-
-// The line of a loop that is kept, since taking it isn't built.
-fn push_line(
-    alloc: Global,
-    report: &mut Vec<u8>,
-    name: &[u8],
-    number: No,
-) -> Result<(), AllocError> {
-    let rest = format!(in alloc; " loop {number}: kept not-built {number}\n")?;
-    report.push(b'@')?;
-    report.extend_from_slice(name)?;
-    report.extend_from_slice(rest.as_bytes())
+    let mode = Mode::Scalar(Shape::new(alloc, &[request.size], false));
+    let module = verify(alloc, tree, &mode)?;
+    Ok(module)
 }

@@ -1,7 +1,8 @@
 //! The command as a whole.
 
-ghost use Rattle.std.specs.Prelude.{◌≡◌, ◌≤◌, ◌⊎◌, codes, length};
-ghost use Rattle.av_top.specs.Request.{AsksNothing, texts};
+ghost use Rattle.std.specs.Prelude.{◌≡◌, ℕ, ◌≤◌, ◌⊎◌, codes, length};
+ghost use Rattle.av_top.specs.Request.{AsksNothing, IsVectorize, texts};
+ghost use Rattle.av_top.specs.Answered.{Answered, DeliversAnswer};
 ghost use Rattle.av_top.specs.Outcome.{InputAfter, SinksAfter, RefusalEnds, IsAnswered};
 
 use crate::answer::{Refusal, answer};
@@ -28,6 +29,8 @@ pub fn affvec<I: Source, O: Sink, N: Sink>(
     ensures usage_only { AsksNothing (texts words.now) → (result ≡ Status.BadUsage) ⊎ (result ≡ Status.NoMemory) }
     ensures input { InputAfter result (I.left input.old) (I.left input.new) (I.faults input.old) (I.faults input.new) }
     ensures sinks { SinksAfter result (O.held output.old) (O.held output.new) (O.faults output.old) (O.faults output.new) (N.held notes.old) (N.held notes.new) (N.faults notes.old) (N.faults notes.new) }
+    // At Done the answer to the input was delivered.
+    ensures answer { result ≡ Status.Done → (size : ℕ) × IsVectorize (texts words.now) size × Answered size (I.left input.old) (I.left input.new) (O.held output.old) (O.held output.new) (O.faults output.old) (O.faults output.new) (N.held notes.old) (N.held notes.new) (N.faults notes.old) (N.faults notes.new) }
 {
     match request_of(words) {
         Some(request) => perform(alloc, request, input, output, notes),
@@ -77,6 +80,7 @@ fn perform<I: Source, O: Sink, N: Sink>(
     ensures usage { result ≡ Status.BadUsage → ⊥ }
     ensures input { InputAfter result (I.left input.old) (I.left input.new) (I.faults input.old) (I.faults input.new) }
     ensures sinks { SinksAfter result (O.held output.old) (O.held output.new) (O.faults output.old) (O.faults output.new) (N.held notes.old) (N.held notes.new) (N.faults notes.old) (N.faults notes.new) }
+    ensures answer { result ≡ Status.Done → Answered request.size (I.left input.old) (I.left input.new) (O.held output.old) (O.held output.new) (O.faults output.old) (O.faults output.new) (N.held notes.old) (N.held notes.new) (N.faults notes.old) (N.faults notes.new) }
 {
     match read_input(alloc, input) {
         Ok(Intake::Text(bytes)) => work_out(alloc, request, bytes.as_slice(), output, notes),
@@ -97,6 +101,7 @@ fn work_out<O: Sink, N: Sink>(
     requires { (1 ≤ request.size) × (request.size ≤ 64) × (length bytes.now ≤ 1048576) }
     ensures kind { IsAnswered result }
     ensures sinks { SinksAfter result (O.held output.old) (O.held output.new) (O.faults output.old) (O.faults output.new) (N.held notes.old) (N.held notes.new) (N.faults notes.old) (N.faults notes.new) }
+    ensures answer { result ≡ Status.Done → DeliversAnswer request.size bytes.now (O.held output.old) (O.held output.new) (O.faults output.old) (O.faults output.new) (N.held notes.old) (N.held notes.new) (N.faults notes.old) (N.faults notes.new) }
 {
     match answer(alloc, request, bytes) {
         Ok(texts) => match deliver(&texts.text, &texts.report, output, notes) {

@@ -8,6 +8,7 @@ mod answer;
 mod command;
 mod delivery;
 mod intake;
+mod report;
 mod request;
 mod status;
 
