@@ -216,7 +216,7 @@ fn numbers_fit_their_places(rt: HostRuntime) -> Result<(), Fail> {
 fn a_megabyte_is_taken_and_no_more(rt: HostRuntime) -> Result<(), Fail> {
     let alloc = rt.alloc();
     let mut text = String::from_str(alloc, PREV)?;
-    while text.len() < 1_048_576 {
+    for _ in PREV.len()..1_048_576 {
         text.push(' ')?;
     }
     taken(&rt, alloc, text.as_str(), PREV_MARKED, KEPT)?;
