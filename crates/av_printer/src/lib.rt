@@ -24,6 +24,7 @@ mod writer;
 
 pub use form::Form;
 pub use laws::worked_examples;
+pub use named::NamedForm;
 pub use nodes::spell;
 pub use printing::{PrintFault, print};
 

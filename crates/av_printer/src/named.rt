@@ -14,7 +14,7 @@ use std::alloc::AllocError;
 
 /// An operation's own form.
 #[derive(Clone, Copy, Debug, Drop, PartialEq, Eq)]
-pub(crate) enum NamedForm {
+pub enum NamedForm {
     Module,
     Function,
     Return,
