@@ -276,7 +276,7 @@ item-none : Item []
 item-none = record { sound = sound-none; opens = opens-none }
 
 -- ---- entries
-free-equal : Free (spaced (sign Equal))
+pub free-equal : Free (spaced (sign Equal))
 unfolding Tame
 free-equal = free-spaced (sign Equal) (sound-sign Equal tt)
 

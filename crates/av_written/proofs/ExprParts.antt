@@ -145,7 +145,7 @@ named-value text h = record {
   no_angle = no_angle-append (token kinds.ValId (e.before 35 text)) (e.which (e.from 35 text)) (no_angle-value (e.before 35 text) h.0);
 }
 
-sound-value : (text : List ℕ) → IsValue text → Sound (e.value text)
+pub sound-value : (text : List ℕ) → IsValue text → Sound (e.value text)
 sound-value text h = (named-value text h).sound
 
 opens-value : (text : List ℕ) → IsValue text → Opens (e.value text)
@@ -155,7 +155,7 @@ abbrev IsPlaced : Option (List ℕ) → Type 0
 IsPlaced None = Unit {0}
 IsPlaced (Some v) = IsValue v
 
-either : {A : Type 0} (P : A → Type 0) (b : Bool) (x y : A) → (b ≡ true → P x) → (b ≡ false → P y) → P (cond b x y)
+pub either : {A : Type 0} (P : A → Type 0) (b : Bool) (x y : A) → (b ≡ true → P x) → (b ≡ false → P y) → P (cond b x y)
 either P true x y h k = h refl
 either P false x y h k = k refl
 

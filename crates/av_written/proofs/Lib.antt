@@ -8,3 +8,9 @@ pub mod Firsts
 pub mod ExprParts
 pub mod AttrEquations
 pub mod AttrParts
+pub mod Said
+pub mod LineParts
+pub mod Names
+pub mod Lines
+pub mod NodeParts
+pub mod EachForm

@@ -201,6 +201,10 @@ pub free-scale : (text : List ℕ) → IsWord kinds.ScalX text → Free (token k
 unfolding lengthens
 free-scale text h rest = word_before kinds.ScalX text rest h refl
 
+-- words that nothing lengthens
+pub free-token : (kind : Kind) (text : List ℕ) → ((rest : List ℕ) → lengthens kind rest ≡ false) → IsWord kind text → Free (token kind text)
+free-token kind text stop h rest = word_before kind text rest h (stop rest)
+
 -- ---- signs
 pub sign_word : (s : Sign) → IsWord (kinds.Sign s) (sign_text s)
 sign_word s = record { spells = record { within = omega arith; spelled = (refl, λ i below. refl) }; short = tt }
@@ -386,3 +390,25 @@ pub free-joined : (several : List (List Piece)) → AllOf Free several → Free 
 unfolding joined AllOf
 free-joined [] h = free-none
 free-joined (first ∷ others) h = free-append first (joined others) h.0 (free-joined others h.1)
+
+-- ---- what can stand behind all that is spaced before what begins apart
+pub record Tail (ps : List Piece) : Type 0 where
+  pub sound : Sound ps
+  pub keeps : Keeps ps
+
+pub tail-none : Tail []
+tail-none = record { sound = sound-none; keeps = keeps-none }
+
+pub tail-divides : (ps : List Piece) → Sound ps → Divides ps → Tail ps
+tail-divides ps h d = record { sound = h; keeps = keeps-divides ps d }
+
+pub sound-tail : (ps qs : List Piece) → Sound ps → Tail qs → Sound (ps ++ qs)
+sound-tail ps qs h t = sound-append ps qs h t.sound t.keeps
+
+pub tail-append : (ps qs : List Piece) → Tail ps → Tail qs → Tail (ps ++ qs)
+tail-append ps qs h t = record { sound = sound-tail ps qs h.sound t; keeps = keeps-append ps qs h.keeps t.keeps }
+
+pub tail-joined : (several : List (List Piece)) → AllOf Tail several → Tail (joined several)
+unfolding joined AllOf
+tail-joined [] h = tail-none
+tail-joined (first ∷ others) h = tail-append first (joined others) h.0 (tail-joined others h.1)

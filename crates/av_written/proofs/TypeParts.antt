@@ -139,7 +139,7 @@ sound-vector ds elem h w =
     (sound-word elem w))
     sound-close_angle divides-close_angle
 
-sound-one_or_several : (several : List (List Piece)) → AllOf Sound several → Sound (one_or_several several)
+pub sound-one_or_several : (several : List (List Piece)) → AllOf Sound several → Sound (one_or_several several)
 unfolding one_or_several AllOf
 sound-one_or_several [] h = sound-of_free (in_round []) (free-in_round [] sound-none)
 sound-one_or_several (only ∷ []) h = h.0
@@ -167,7 +167,7 @@ mutual
       subst Sound (sym (type-func inputs results))
       (sound-func (map type_pieces inputs) (map type_pieces results) (sound-types inputs h) (sound-types results k))
 
-  sound-types : (types : List TypeText) → AreReadTypes types → AllOf Sound (map type_pieces types)
+  pub sound-types : (types : List TypeText) → AreReadTypes types → AllOf Sound (map type_pieces types)
   sound-types _ none = tt
   sound-types _ (more ty types h k) = (sound-type ty h, sound-types types k)
 

@@ -18,6 +18,10 @@ use Rattle.std.specs.List.{All}
 use Rattle.av_written.specs.ReadTypes.{IsReadType}
 use Rattle.av_written.specs.ReadAttributes.{IsReadAttr, AreReadEntries}
 use Rattle.av_written.specs.ReadExpressions.{IsReadMap, IsReadSet, IsValue}
+use Rattle.av_tree.specs.declared.node.Node.{Node}
+use Rattle.av_printer.specs.declared.form.Form.{Form}
+use Rattle.av_printer.specs.Spelling.{pieces_of}
+use Rattle.av_written.specs.ReadNodes.{IsReadNode}
 
 -- the tokens of what spaced pieces spell are their words
 abbrev pub TokensLaw : Type 0
@@ -69,3 +73,7 @@ AttributesLaw = (a : Attr) → IsReadAttr a → (rest : List ℕ) → begins_apa
 abbrev pub DictionariesLaw : Type 0
 DictionariesLaw = (entries : List Named) → AreReadEntries entries → (rest : List ℕ) → begins_apart rest ≡ true
     → SpacedBefore (dictionary entries) rest
+
+-- and of a whole tree, in each form
+abbrev pub TreesLaw : Type 0
+TreesLaw = (form : Form) (root : Node) → IsReadNode form root → Spaced (pieces_of form root)

@@ -3,7 +3,8 @@
 //! A spelling that is read again has exactly the tokens that were spelled.
 #![tactic(auto)]
 
-ghost use Rattle.av_written.specs.WrittenLaws.{AttributesLaw, ClassesLaw, DictionariesLaw, MapUsesLaw, MapsLaw, NoOtherTokensLaw, PartsLaw, SetsLaw, SpellingsLaw, TokensLaw, TypesLaw};
+ghost use Rattle.av_written.specs.WrittenLaws.{AttributesLaw, ClassesLaw, DictionariesLaw, MapUsesLaw, MapsLaw, NoOtherTokensLaw, PartsLaw, SetsLaw, SpellingsLaw, TokensLaw, TreesLaw, TypesLaw};
+ghost use Rattle.av_written.specs.WrittenTrees.{FormsLaw, WrittenTreesLaw};
 
 /// The tokens of what spaced pieces spell are their words.
 pub fn words_are_tokens()
@@ -58,4 +59,19 @@ pub fn attributes_are_spaced()
 /// And of the entries of a dictionary.
 pub fn dictionaries_are_spaced()
     ensures { DictionariesLaw }
+{}
+
+/// And of a whole tree, in each form.
+pub fn trees_are_spaced()
+    ensures { TreesLaw }
+{}
+
+/// The text of a tree is read again as the words of its pieces: it has no other tokens, and each has its word's text and class.
+pub fn trees_are_read_as_spelled()
+    ensures { WrittenTreesLaw }
+{}
+
+/// A tree that can be spelled with operations in forms of their own can be spelled in each form.
+pub fn each_form_can_be_spelled()
+    ensures { FormsLaw }
 {}
