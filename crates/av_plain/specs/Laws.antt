@@ -1,0 +1,32 @@
+-- What holds of programs.
+use Rattle.std.specs.Prelude.{◌≡◌, true, List, [], ◌∷◌}
+use Rattle.av_ir.specs.declared.module.Module.{Module}
+use Rattle.av_ir.specs.Marks.{marked_of}
+use Rattle.av_shapes.specs.declared.Shape.{Shape}
+use Rattle.av_tree.specs.declared.node.Tree.{Tree}
+use Rattle.av_totree.specs.Trees.{tree_of}
+use Rattle.av_verify.specs.declared.module.Mode.TheVariants.{Scalar, Run}
+use Rattle.av_verify.specs.Elaboration.{elaborated, gives}
+use Rattle.av_verify.specs.FirstPath.{is_first_path_of}
+use Rattle.av_plain.specs.Programs.{Program}
+use Rattle.av_plain.specs.Modules.{module_of}
+use Rattle.av_plain.specs.WrittenTrees.{written_tree}
+use Rattle.av_plain.specs.ReadTrees.{read_tree}
+use Rattle.av_plain.specs.Sound.{IsSound}
+
+-- the tree that is printed for a program's module
+abbrev pub WrittenLaw : Type 0
+WrittenLaw = (p : Program) → tree_of (module_of p) ≡ written_tree p
+
+-- the tree as which a sound program is read again is its module
+abbrev pub ReadLaw : Type 0
+ReadLaw = (p : Program) → IsSound p → elaborated (read_tree p) Run ≡ gives (module_of p)
+
+-- a tree of the forms that are taken, in which no rule fails, is a sound program, with its loops and accesses marked
+pub record IsProgram (m : Module) : Type 0 where
+  pub program : Program
+  pub sound : IsSound program
+  pub same : marked_of m ≡ module_of program
+
+abbrev pub TakenLaw : Type 0
+TakenLaw = (tree : Tree) (shape : Shape) (m : Module) → is_first_path_of tree ≡ true → elaborated tree (Scalar shape) ≡ gives m → IsProgram m
