@@ -1,5 +1,5 @@
 -- What holds of programs.
-use Rattle.std.specs.Prelude.{◌≡◌, true, List, [], ◌∷◌}
+use Rattle.std.specs.Prelude.{◌≡◌, true}
 use Rattle.av_ir.specs.declared.module.Module.{Module}
 use Rattle.av_ir.specs.Marks.{marked_of}
 use Rattle.av_shapes.specs.declared.Shape.{Shape}
@@ -14,9 +14,9 @@ use Rattle.av_plain.specs.WrittenTrees.{written_tree}
 use Rattle.av_plain.specs.ReadTrees.{read_tree}
 use Rattle.av_plain.specs.Sound.{IsSound}
 
--- the tree that is printed for a program's module
+-- the tree that is printed for the module of a sound program
 abbrev pub WrittenLaw : Type 0
-WrittenLaw = (p : Program) → tree_of (module_of p) ≡ written_tree p
+WrittenLaw = (p : Program) → IsSound p → tree_of (module_of p) ≡ written_tree p
 
 -- the tree as which a sound program is read again is its module
 abbrev pub ReadLaw : Type 0

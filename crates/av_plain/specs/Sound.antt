@@ -1,5 +1,5 @@
 -- Programs that break no rule of the verifier.
-use Rattle.std.specs.Prelude.{ℕ, ◌<◌, ◌≤◌, ◌^◌, ◌≡◌, ◌⊎◌, ⊥, true, ℤ, unsigned_abs, ◌+◌, List, [], ◌∷◌, ◌++◌, length}
+use Rattle.std.specs.Prelude.{ℕ, ◌<◌, ◌≤◌, ◌^◌, ◌≡◌, ◌⊎◌, true, ℤ, unsigned_abs, ◌+◌, List, [], ◌∷◌, ◌++◌, length}
 use Rattle.std.specs.List.{All, range_with_len}
 use Rattle.av_ir.specs.declared.ty.Elem.{Elem}
 use Rattle.av_ir.specs.declared.ty.Ty.{Ty}

@@ -1,7 +1,6 @@
 -- The tree that is printed for the module of a program: each type is written.
 use Rattle.std.specs.Prelude.{ℕ, ℤ, pos, List, [], ◌∷◌, ◌++◌, map, Option, Some, None, codes}
 use Rattle.av_bits.specs.declared.types.Width.TheVariants.{W32}
-use Rattle.av_bits.specs.Pattern.{bits_of, signed_value}
 use Rattle.av_ir.specs.declared.ty.Elem.TheVariants.{Index}
 use Rattle.av_ir.specs.declared.ty.Ty.{Ty}
 use Rattle.av_ir.specs.declared.ty.Ty.TheVariants.{Scalar}
@@ -18,6 +17,7 @@ use Rattle.av_tree.specs.declared.written.MapText.{MapText}
 use Rattle.av_tree.specs.declared.written.TypeText.{TypeText}
 use Rattle.av_tree.specs.declared.written.TypeText.TheVariants as text
 use Rattle.av_totree.specs.Types.{type_of}
+use Rattle.av_totree.specs.Constants.{signed_low}
 use Rattle.av_totree.specs.Names.{argument_name, operation_name}
 use Rattle.av_plain.specs.Programs.{Subscript, fixed, variable, plus, minus, Line, constant, sum, load, store, Step, single, counted, Program}
 use Rattle.av_plain.specs.Walks.{Place, element, buffer, type_at, name_at, after_line, inside, after_step, body_place}
@@ -36,7 +36,7 @@ mark name number = entry name (number_of (codes "i64") (pos number)) ∷ []
 
 -- the number that a pattern of 32 bits is
 abbrev pub constant_attr : ℕ → Attr
-constant_attr pattern = number_of (codes "i32") (signed_value 32 (pattern))
+constant_attr pattern = number_of (codes "i32") (signed_low W32 pattern)
 
 -- ---- maps
 abbrev pub dimension : List ℕ
