@@ -1,5 +1,5 @@
 -- The module of a program, with its loops and accesses marked.
-use Rattle.std.specs.Prelude.{ℕ, ◌+◌, ℤ, List, [], ◌∷◌, ◌++◌, map, length, replicate, Option, Some, None}
+use Rattle.std.specs.Prelude.{ℕ, ◌+◌, ℤ, false, List, [], ◌∷◌, ◌++◌, map, length, replicate, Option, Some, None}
 use Rattle.std.specs.List.{range_with_len}
 use Rattle.av_affine.specs.declared.expression.Leaf.TheVariants.{Dim}
 use Rattle.av_affine.specs.declared.expression.Expr.{Expr}

@@ -1,5 +1,5 @@
 -- The tree that is printed for the module of a program: each type is written.
-use Rattle.std.specs.Prelude.{ℕ, ℤ, pos, List, [], ◌∷◌, ◌++◌, map, Option, Some, None, codes}
+use Rattle.std.specs.Prelude.{ℕ, ◌+◌, ℤ, pos, List, [], ◌∷◌, ◌++◌, map, length, Option, Some, None, codes}
 use Rattle.av_bits.specs.declared.types.Width.TheVariants.{W32}
 use Rattle.av_ir.specs.declared.ty.Elem.TheVariants.{Index}
 use Rattle.av_ir.specs.declared.ty.Ty.{Ty}
