@@ -2,7 +2,7 @@
 use Rattle.std.proofs.Common.{◌≡◌, ap, sym, ◌∙◌, refl, ℕ, ◌+◌, ◌<◌, List, [], ◌∷◌, ◌++◌, map, length, get_or, append_assoc, arith, length-append}
 use Rattle.std.proofs.lemmas.List.{get_or_append_left, get_or_at, set_at}
 use Rattle.std.proofs.lemmas.Option.{slice_get-get_or}
-use Rattle.std.specs.Prelude.{Option, Some, None, option_map, unwrap_or, slice_get, codes}
+use Rattle.std.specs.Prelude.{Option, Some, option_map, unwrap_or, slice_get, codes}
 use Rattle.av_ir.specs.declared.ty.Elem.TheVariants.{Index}
 use Rattle.av_ir.specs.declared.ty.Ty.{Ty}
 use Rattle.av_ir.specs.declared.ty.Ty.TheVariants.{Scalar}

@@ -1,5 +1,5 @@
 -- The nodes that are made of the lines of a loop.
-use Rattle.std.proofs.Common.{◌≡◌, ap, sym, ◌∙◌, refl, ℕ, ◌+◌, ◌<◌, ◌≤◌, List, [], ◌∷◌, ◌++◌, map, length, append_assoc, arith}
+use Rattle.std.proofs.Common.{◌≡◌, ap, sym, ◌∙◌, refl, ℕ, ◌<◌, ◌≤◌, List, [], ◌∷◌, ◌++◌, map, length, append_assoc, arith}
 use Rattle.std.specs.Prelude.{Option, Some, None, codes}
 use Rattle.av_bits.specs.declared.types.BinOp.TheVariants.{Addi}
 use Rattle.av_ir.specs.declared.ty.Ty.{Ty}
@@ -10,19 +10,17 @@ use Rattle.av_ir.specs.declared.module.Marks.{Marks}
 use Rattle.av_tree.specs.declared.attribute.Attr.TheVariants as attr
 use Rattle.av_tree.specs.declared.attribute.Named.{Named}
 use Rattle.av_tree.specs.declared.node.Node.{Node}
-use Rattle.av_tree.specs.declared.node.Body.{Body}
-use Rattle.av_totree.specs.Names.{Naming, written_type, result_texts, with_results}
+use Rattle.av_totree.specs.Names.{Naming, written_type, with_results}
 use Rattle.av_totree.specs.Properties.{kind_name, properties_of, marks_of, typed_value}
 use Rattle.av_totree.specs.Trees.{Made, Making, in_turn, node_of}
-use Rattle.av_totree.specs.Types.{type_of}
 use Rattle.av_plain.specs.Programs.{Subscript, fixed, variable, plus, minus, Line, constant, sum, load, store}
 use Rattle.av_plain.specs.Walks.{Place, element, type_at, next, passed, with_result, after_line, after_lines}
 use Rattle.av_plain.specs.Modules.{value, op, no_marks, access_mark, subscript_values, line_op, line_ops}
 use Rattle.av_plain.specs.Modules as modules
-use Rattle.av_plain.specs.WrittenTrees.{node, entry, constant_attr, map_entry, subscript_map, mark, next_name, constant_node, end_node, line_node, line_nodes}
+use Rattle.av_plain.specs.WrittenTrees.{node, entry, constant_attr, map_entry, subscript_map, next_name, constant_node, end_node, line_node, line_nodes}
 use Rattle.av_plain.specs.Sound.{IsSoundLine, AreSoundLines, visible_after}
 use Rattle.av_plain.proofs.Ahead.{naming_at, IsNamed, AreBefore, next_there, result_type, result_named, passed_named, IsNamed-result, IsNamed-passed, types-result, types-passed, next-result, next-passed}
-use Rattle.av_plain.proofs.MadeOps.{subscript_text, flat, made_plain, flat_is}
+use Rattle.av_plain.proofs.MadeOps.{subscript_text, made_plain, flat_is}
 
 -- ---- an operation with a result, and one without
 module _ (T rest : List Ty) (number : ℕ) (kind : OpKind) (operands : List ℕ) (marks : Marks) (place : Place) (named : IsNamed place)

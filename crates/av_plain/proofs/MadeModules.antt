@@ -1,21 +1,17 @@
 -- The tree that is made of the module of a program.
-use Rattle.std.proofs.Common.{◌≡◌, ap, sym, ◌∙◌, refl, ℕ, ◌+◌, List, [], ◌∷◌, ◌++◌, map, length, append_assoc, append-nil}
-use Rattle.std.specs.Prelude.{Option, Some, None, codes}
+use Rattle.std.proofs.Common.{◌≡◌, ap, sym, ◌∙◌, refl, ℕ, ◌+◌, List, [], ◌∷◌, ◌++◌, map, length, append-nil}
+use Rattle.std.specs.Prelude.{codes}
 use Rattle.std.specs.List.{range_with_len}
 use Rattle.av_ir.specs.declared.ty.Ty.{Ty}
 use Rattle.av_ir.specs.declared.module.Region.{Region-F, out-Region, out-roll-Region}
 use Rattle.av_ir.specs.declared.module.Op.{Op}
 use Rattle.av_ir.specs.declared.module.Region.{Region}
-use Rattle.av_ir.specs.declared.module.Func.{Func}
-use Rattle.av_tree.specs.declared.node.Node.{Node}
 use Rattle.av_tree.specs.declared.node.Body.{Body, roll-Body}
-use Rattle.av_tree.specs.declared.node.BodyArg.{BodyArg}
-use Rattle.av_tree.specs.declared.written.TypeText.{TypeText}
-use Rattle.av_totree.specs.Names.{Naming, argument_name, first_naming}
+use Rattle.av_totree.specs.Names.{argument_name, first_naming}
 use Rattle.av_totree.specs.Properties.{function_properties_of}
 use Rattle.av_totree.specs.Trees.{Made, in_turn, make_argument, argument_type, function_of, body_of, tree_of}
 use Rattle.av_totree.specs.Types.{type_of}
-use Rattle.av_plain.specs.Programs.{Program, Step}
+use Rattle.av_plain.specs.Programs.{Program}
 use Rattle.av_plain.specs.Walks.{Place, buffer, next, with_argument, after_buffers, first_place, body_place, last_place}
 use Rattle.av_plain.specs.Modules.{value, step_ops, func_of, module_of}
 use Rattle.av_plain.specs.WrittenTrees.{argument, arguments, step_nodes, function_properties, outer_node, function_node, written_tree}

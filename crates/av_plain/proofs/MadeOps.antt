@@ -2,8 +2,7 @@
 use Rattle.std.proofs.Common.{◌≡◌, ap, sym, ◌∙◌, refl, ℕ, List, [], ◌∷◌, ◌++◌, map, length}
 use Rattle.std.specs.Prelude.{ℤ, Option, Some, None}
 use Rattle.std.specs.Fmt.{digits}
-use Rattle.av_affine.specs.declared.expression.Expr.{Expr, fold-roll-Expr}
-use Rattle.av_affine.specs.declared.expression.Expr.TheOpen as open_expr
+use Rattle.av_affine.specs.declared.expression.Expr.{Expr}
 use Rattle.av_affine.specs.declared.expression.Expr.TheVariants as expr
 use Rattle.av_affine.specs.declared.expression.Expr.TheVariants.{rolls-Param, rolls-Const}
 use Rattle.av_affine.specs.declared.expression.Leaf.TheVariants.{Dim}
@@ -13,12 +12,11 @@ use Rattle.av_totree.proofs.Expressions.{param_text, const_text, add_text, sub_t
 use Rattle.av_ir.specs.declared.ty.Ty.{Ty}
 use Rattle.av_ir.specs.declared.module.OpKind.{OpKind}
 use Rattle.av_ir.specs.declared.module.Marks.{Marks}
-use Rattle.av_ir.specs.declared.module.Op.{Op, Op-F, fold-roll-Op}
-use Rattle.av_ir.specs.declared.module.Region.{Region, Region-F}
+use Rattle.av_ir.specs.declared.module.Op.{Op-F, fold-roll-Op}
+use Rattle.av_ir.specs.declared.module.Region.{Region}
 use Rattle.av_tree.specs.declared.attribute.Named.{Named}
 use Rattle.av_tree.specs.declared.node.Node.{Node, roll-Node}
 use Rattle.av_tree.specs.declared.node.Body.{Body}
-use Rattle.av_tree.specs.declared.written.MapText.{MapText}
 use Rattle.av_tree.specs.declared.written.TypeText.{TypeText}
 use Rattle.av_totree.specs.Maps.{expression_of, map_of}
 use Rattle.av_totree.specs.Names.{Naming, name_of, written_type, result_texts, with_results}

@@ -1,15 +1,13 @@
 -- The nodes that are made of the steps of a function.
-use Rattle.std.proofs.Common.{◌≡◌, ap, sym, ◌∙◌, refl, ℕ, ◌+◌, ◌<◌, List, [], ◌∷◌, ◌++◌, map, length, append_assoc, arith}
-use Rattle.std.specs.Prelude.{ℤ, pos, Option, Some, None, codes}
+use Rattle.std.proofs.Common.{◌≡◌, ap, ◌∙◌, refl, ℕ, ◌+◌, ◌<◌, List, [], ◌∷◌, ◌++◌, map, append_assoc, arith}
+use Rattle.std.specs.Prelude.{ℤ, pos, codes}
 use Rattle.av_ir.specs.declared.ty.Elem.TheVariants.{Index}
 use Rattle.av_ir.specs.declared.ty.Ty.{Ty}
 use Rattle.av_ir.specs.declared.ty.Ty.TheVariants.{Scalar}
 use Rattle.av_ir.specs.declared.module.ValueId.{ValueId}
 use Rattle.av_ir.specs.declared.module.Op.{Op}
-use Rattle.av_ir.specs.declared.module.OpKind.{OpKind}
 use Rattle.av_ir.specs.declared.module.OpKind.TheVariants.{FuncReturn, AffineFor}
-use Rattle.av_ir.specs.declared.module.Region.{Region, fold-roll-Region, roll-Region}
-use Rattle.av_tree.specs.declared.attribute.Attr.{Attr}
+use Rattle.av_ir.specs.declared.module.Region.{fold-roll-Region, roll-Region}
 use Rattle.av_tree.specs.declared.attribute.Attr.TheVariants as attr
 use Rattle.av_tree.specs.declared.attribute.Named.{Named}
 use Rattle.av_tree.specs.declared.node.Node.{Node}
@@ -19,16 +17,16 @@ use Rattle.av_tree.specs.declared.written.MapText.{MapText}
 use Rattle.av_tree.specs.declared.written.TypeText.TheVariants as text
 use Rattle.av_totree.specs.Maps.{map_of}
 use Rattle.av_totree.specs.Names.{Naming, argument_name}
-use Rattle.av_totree.specs.Properties.{kind_name, properties_of, marks_of}
+use Rattle.av_totree.specs.Properties.{properties_of}
 use Rattle.av_totree.specs.Trees.{Made, Making, in_turn, make_argument, make_node, make_body, node_of, body_of}
 use Rattle.av_plain.specs.Programs.{Line, Step, single, counted}
-use Rattle.av_plain.specs.Walks.{Place, element, next, passed, with_argument, after_lines, inside, after_step, after_steps}
+use Rattle.av_plain.specs.Walks.{Place, element, next, with_argument, after_lines, inside, after_step, after_steps}
 use Rattle.av_plain.specs.Modules.{value, op, no_marks, loop_mark, line_ops, loop_region, step_op, step_ops}
 use Rattle.av_plain.specs.Modules as modules
 use Rattle.av_plain.specs.WrittenTrees.{node, entry, number_of, bound_map, argument, loop_properties, mark, line_nodes, loop_body, step_node, end_node, step_nodes}
 use Rattle.av_plain.specs.Sound.{IsSoundStep, AreSoundSteps, visible_behind}
 use Rattle.av_plain.proofs.Ahead.{naming_at, IsNamed, type_of_argument, argument_named, passed_named, IsNamed-result, IsNamed-argument, IsNamed-passed, types-result, types-argument, types-passed, next-argument}
-use Rattle.av_plain.proofs.MadeOps.{bound_text, flat, made_op, flat_is}
+use Rattle.av_plain.proofs.MadeOps.{bound_text, made_op, flat_is}
 use Rattle.av_plain.proofs.MadeLines.{made_constant, made_end, lines_types, made_first, made_none, made_lines, IsNamed-lines, types-lines}
 
 -- ---- regions

@@ -1,5 +1,5 @@
 -- The module of a program, with its loops and accesses marked.
-use Rattle.std.specs.Prelude.{ℕ, ◌+◌, ℤ, false, List, [], ◌∷◌, ◌++◌, map, length, replicate, Option, Some, None}
+use Rattle.std.specs.Prelude.{ℕ, ◌+◌, ℤ, false, List, [], ◌∷◌, map, length, replicate, Some, None}
 use Rattle.std.specs.List.{range_with_len}
 use Rattle.av_affine.specs.declared.expression.Leaf.TheVariants.{Dim}
 use Rattle.av_affine.specs.declared.expression.Expr.{Expr}
@@ -16,7 +16,7 @@ use Rattle.av_ir.specs.declared.module.Region.{Region, roll-Region}
 use Rattle.av_ir.specs.declared.module.Func.{Func}
 use Rattle.av_ir.specs.declared.module.Module.{Module}
 use Rattle.av_plain.specs.Programs.{Subscript, fixed, variable, plus, minus, Line, constant, sum, load, store, Step, single, counted, Program}
-use Rattle.av_plain.specs.Walks.{Place, next, after_line, after_lines, inside, after_step, body_place, last_place}
+use Rattle.av_plain.specs.Walks.{Place, next, after_line, inside, after_step, body_place, last_place}
 
 abbrev pub no_marks : Marks
 no_marks = record { loop_no = None; source = None; distinct = false }

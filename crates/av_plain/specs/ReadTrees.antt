@@ -1,8 +1,5 @@
 -- The tree as which the text of a program is read again, but for places: only types that the text writes stand in it, and properties stand in the order of reading.
-use Rattle.std.specs.Prelude.{ℕ, ℤ, pos, List, [], ◌∷◌, ◌++◌, map, length, Option, Some, None, codes}
-use Rattle.av_ir.specs.declared.ty.Elem.TheVariants.{Index}
-use Rattle.av_ir.specs.declared.ty.Ty.{Ty}
-use Rattle.av_ir.specs.declared.ty.Ty.TheVariants.{Scalar}
+use Rattle.std.specs.Prelude.{ℕ, ℤ, pos, List, [], ◌∷◌, map, length, Option, Some, None, codes}
 use Rattle.av_tree.specs.declared.attribute.Attr.TheVariants as attr
 use Rattle.av_tree.specs.declared.attribute.Named.{Named}
 use Rattle.av_tree.specs.declared.node.Node.{Node, roll-Node}
@@ -11,8 +8,8 @@ use Rattle.av_tree.specs.declared.node.Tree.{Tree}
 use Rattle.av_tree.specs.declared.written.TypeText.{TypeText}
 use Rattle.av_tree.specs.declared.written.TypeText.TheVariants as text
 use Rattle.av_totree.specs.Types.{type_of}
-use Rattle.av_plain.specs.Programs.{Subscript, Line, constant, sum, load, store, Step, single, counted, Program}
-use Rattle.av_plain.specs.Walks.{Place, element, type_at, name_at, after_line, inside, after_step, body_place}
+use Rattle.av_plain.specs.Programs.{Line, constant, sum, load, store, Step, single, counted, Program}
+use Rattle.av_plain.specs.Walks.{Place, type_at, name_at, after_line, inside, after_step, body_place}
 use Rattle.av_plain.specs.Modules.{subscript_values}
 use Rattle.av_plain.specs.WrittenTrees.{entry, number_of, mark, map_entry, subscript_map, bound_map, next_name, constant_node, end_node, loop_body, arguments, function_properties, outer_node}
 
