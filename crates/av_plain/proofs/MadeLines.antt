@@ -1,6 +1,6 @@
 -- The nodes that are made of the lines of a loop.
 use Rattle.std.proofs.Common.{◌≡◌, ap, sym, ◌∙◌, refl, ℕ, ◌<◌, ◌≤◌, List, [], ◌∷◌, ◌++◌, map, length, append_assoc, arith}
-use Rattle.std.specs.Prelude.{Option, Some, None, codes}
+use Rattle.std.specs.Prelude.{codes, slice_get}
 use Rattle.av_bits.specs.declared.types.BinOp.TheVariants.{Addi}
 use Rattle.av_ir.specs.declared.ty.Ty.{Ty}
 use Rattle.av_ir.specs.declared.module.Const.TheVariants.{Splat}
@@ -12,6 +12,7 @@ use Rattle.av_tree.specs.declared.attribute.Named.{Named}
 use Rattle.av_tree.specs.declared.node.Node.{Node}
 use Rattle.av_totree.specs.Names.{Naming, written_type, with_results}
 use Rattle.av_totree.specs.Properties.{kind_name, properties_of, marks_of, typed_value}
+use Rattle.av_totree.specs.Properties as properties
 use Rattle.av_totree.specs.Trees.{Made, Making, in_turn, node_of}
 use Rattle.av_plain.specs.Programs.{Subscript, fixed, variable, plus, minus, Line, constant, sum, load, store}
 use Rattle.av_plain.specs.Walks.{Place, element, type_at, next, passed, with_result, after_line, after_lines}
@@ -61,7 +62,7 @@ unfolding constant_node
 made_constant T rest pattern place named is =
     made_result T rest place.number (ArithConstant (Splat pattern)) [] no_marks place named tt element
     (entry (codes "value") (constant_attr pattern) ∷ []) is
-    (ap (typed_value (Splat pattern)) (ap (λ t. Rattle.std.specs.Prelude.slice_get t (next place)) is ∙ next_there element rest place))
+    (ap (typed_value (Splat pattern)) (ap (λ t. slice_get t (next place)) is ∙ next_there element rest place))
 
 pub made_end : (T rest : List Ty) (kind : OpKind) (place : Place) → IsNamed place → T ≡ place.types ++ rest
     → properties_of T kind 0 [] ≡ []
@@ -90,7 +91,7 @@ before_subscript counter variable place lt = (lt, tt)
 before_subscript counter (plus z) place lt = (lt, tt)
 before_subscript counter (minus z) place lt = (lt, tt)
 
-map_is : (at : Subscript) → Rattle.av_totree.specs.Properties.map_entry (codes "map") (modules.subscript_map at) ∷ [] ≡ map_entry (codes "map") (subscript_map at) ∷ []
+map_is : (at : Subscript) → properties.map_entry (codes "map") (modules.subscript_map at) ∷ [] ≡ map_entry (codes "map") (subscript_map at) ∷ []
 map_is at = ap (λ m. entry (codes "map") (attr.Map m) ∷ []) (subscript_text at)
 
 pub made_line : (T rest : List Ty) (counter : ℕ) (line : Line) (place : Place) (visible : List ℕ) → IsNamed place → counter < next place

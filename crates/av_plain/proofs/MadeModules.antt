@@ -10,6 +10,7 @@ use Rattle.av_tree.specs.declared.node.Body.{Body, roll-Body}
 use Rattle.av_totree.specs.Names.{argument_name, first_naming}
 use Rattle.av_totree.specs.Properties.{function_properties_of}
 use Rattle.av_totree.specs.Trees.{Made, in_turn, make_argument, argument_type, function_of, body_of, tree_of}
+use Rattle.av_totree.specs.Trees as trees
 use Rattle.av_totree.specs.Types.{type_of}
 use Rattle.av_plain.specs.Programs.{Program}
 use Rattle.av_plain.specs.Walks.{Place, buffer, next, with_argument, after_buffers, first_place, body_place, last_place}
@@ -97,13 +98,13 @@ module _ (p : Program) (sound : IsSound p) where
   function_made : function_of (func_of p) ≡ function_node p
   unfolding outer_node
   function_made =
-      ap (λ inputs. Rattle.av_totree.specs.Trees.outer_node (codes "func.func") (function_properties_of p.name inputs []) []
+      ap (λ inputs. trees.outer_node (codes "func.func") (function_properties_of p.name inputs []) []
       (body_of T (func_of p).body (first_naming T)).made) inputs_are
-      ∙ ap (λ (made : Made Body). Rattle.av_totree.specs.Trees.outer_node (codes "func.func") (function_properties p) [] made.made) body_made
+      ∙ ap (λ (made : Made Body). trees.outer_node (codes "func.func") (function_properties p) [] made.made) body_made
 
   pub tree_made : tree_of (module_of p) ≡ written_tree p
   unfolding outer_node
   tree_made = ap (λ node. record {
     aliases = [];
-    root = Rattle.av_totree.specs.Trees.outer_node (codes "builtin.module") [] [] (roll-Body (record { args = []; nodes = node ∷ [] }));
+    root = trees.outer_node (codes "builtin.module") [] [] (roll-Body (record { args = []; nodes = node ∷ [] }));
   }) function_made

@@ -1,6 +1,6 @@
 -- The node that is made of an operation without regions, and the text of a map.
 use Rattle.std.proofs.Common.{◌≡◌, ap, sym, ◌∙◌, refl, ℕ, List, [], ◌∷◌, ◌++◌, map, length}
-use Rattle.std.specs.Prelude.{ℤ, Option, Some, None}
+use Rattle.std.specs.Prelude.{ℤ, Option, Some}
 use Rattle.std.specs.Fmt.{digits}
 use Rattle.av_affine.specs.declared.expression.Expr.{Expr}
 use Rattle.av_affine.specs.declared.expression.Expr.TheVariants as expr
@@ -27,23 +27,23 @@ use Rattle.av_plain.specs.Programs.{Subscript, fixed, variable, plus, minus}
 use Rattle.av_plain.specs.Walks.{Place, type_at, name_at}
 use Rattle.av_plain.specs.Modules.{value, op}
 use Rattle.av_plain.specs.Modules as modules
-use Rattle.av_plain.specs.WrittenTrees.{node, bound_map, subscript_map}
+use Rattle.av_plain.specs.WrittenTrees.{node, bound_map, subscript_map, dimension, over}
 use Rattle.av_plain.proofs.Ahead.{naming_at, IsNamed, AreBefore, operand_names, operand_types}
 
 -- ---- maps
 const_is : (z : ℤ) → expression_of (expr.Const z) ≡ text.Const z
 const_is z = sym (const_text (expr.Const z) z z refl refl)
 
-variable_is : expression_of modules.loop_variable ≡ text.Name (Rattle.std.specs.Prelude.codes "d0")
+variable_is : expression_of modules.loop_variable ≡ text.Name dimension
 unfolding digits
 variable_is = sym (param_text modules.loop_variable (Dim 0) _ refl refl)
 
 pub bound_text : (z : ℤ) → map_of (modules.bound_map z) ≡ bound_map z
 bound_text z = ap (λ e. record { dims = []; syms = []; results = e ∷ [] }) (const_is z)
 
-over_variable : (e : Expr) (t : ExprText) → expression_of e ≡ t → map_of (modules.over 1 e) ≡ Rattle.av_plain.specs.WrittenTrees.over (Rattle.av_plain.specs.WrittenTrees.dimension ∷ []) t
+over_variable : (e : Expr) (t : ExprText) → expression_of e ≡ t → map_of (modules.over 1 e) ≡ over (dimension ∷ []) t
 unfolding digits
-over_variable e t is = ap (λ e. record { dims = Rattle.av_plain.specs.WrittenTrees.dimension ∷ []; syms = []; results = e ∷ [] }) is
+over_variable e t is = ap (λ e. record { dims = dimension ∷ []; syms = []; results = e ∷ [] }) is
 
 pub subscript_text : (at : Subscript) → map_of (modules.subscript_map at) ≡ subscript_map at
 subscript_text (fixed z) = bound_text z

@@ -18,13 +18,14 @@ use Rattle.av_tree.specs.declared.written.TypeText.TheVariants as text
 use Rattle.av_totree.specs.Maps.{map_of}
 use Rattle.av_totree.specs.Names.{Naming, argument_name}
 use Rattle.av_totree.specs.Properties.{properties_of}
-use Rattle.av_totree.specs.Trees.{Made, Making, in_turn, make_argument, make_node, make_body, node_of, body_of}
+use Rattle.av_totree.specs.Names as names
+use Rattle.av_totree.specs.Trees.{Made, Making, in_turn, make_argument, make_node, make_body, node_of, body_of, argument_type}
 use Rattle.av_plain.specs.Programs.{Line, Step, single, counted}
 use Rattle.av_plain.specs.Walks.{Place, element, next, with_argument, after_lines, inside, after_step, after_steps}
 use Rattle.av_plain.specs.Modules.{value, op, no_marks, loop_mark, line_ops, loop_region, step_op, step_ops}
 use Rattle.av_plain.specs.Modules as modules
 use Rattle.av_plain.specs.WrittenTrees.{node, entry, number_of, bound_map, argument, loop_properties, mark, line_nodes, loop_body, step_node, end_node, step_nodes}
-use Rattle.av_plain.specs.Sound.{IsSoundStep, AreSoundSteps, visible_behind}
+use Rattle.av_plain.specs.Sound.{IsSoundStep, AreSoundSteps, visible_behind, AreSoundLines}
 use Rattle.av_plain.proofs.Ahead.{naming_at, IsNamed, type_of_argument, argument_named, passed_named, IsNamed-result, IsNamed-argument, IsNamed-passed, types-result, types-argument, types-passed, next-argument}
 use Rattle.av_plain.proofs.MadeOps.{bound_text, made_op, flat_is}
 use Rattle.av_plain.proofs.MadeLines.{made_constant, made_end, lines_types, made_first, made_none, made_lines, IsNamed-lines, types-lines}
@@ -50,8 +51,8 @@ pub made_argument : (T rest : List Ty) (ty : Ty) (place : Place) → IsNamed pla
 made_argument T rest ty place named is =
     ap (λ type. record {
       made = record { name = argument_name place.arguments; ty = type };
-      naming = Rattle.av_totree.specs.Names.with_argument (value (next place)) (naming_at (ty ∷ rest) place);
-    }) (ap (λ t. Rattle.av_totree.specs.Trees.argument_type t (value (next place))) is ∙ type_of_argument ty rest place)
+      naming = names.with_argument (value (next place)) (naming_at (ty ∷ rest) place);
+    }) (ap (λ t. argument_type t (value (next place))) is ∙ type_of_argument ty rest place)
     ∙ ap (λ naming. record { made = argument (argument_name place.arguments) ty; naming = naming }) (argument_named ty rest place named)
 
 -- ---- loops
@@ -61,7 +62,7 @@ module _ (T rest : List Ty) (lines : List Line) (place : Place) where
   inner = lines_types lines (inside place) ++ rest
 
   made_loop_region : (visible : List ℕ) → IsNamed place → T ≡ place.types ++ Scalar Index ∷ inner
-      → Rattle.av_plain.specs.Sound.AreSoundLines visible (inside place) lines
+      → AreSoundLines visible (inside place) lines
       → body_of T (loop_region lines place) (naming_at (Scalar Index ∷ inner) place)
       ≡ record { made = loop_body (line_nodes (next place) lines (inside place)) place; naming = naming_at rest (after_lines lines (inside place)) }
   unfolding loop_region loop_body inside
