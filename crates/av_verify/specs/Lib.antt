@@ -15,3 +15,4 @@ pub mod Ends
 pub mod Loops
 pub mod Modules
 pub mod Elaboration
+pub mod Parts

@@ -1,0 +1,13 @@
+pub mod Ahead
+pub mod MadeOps
+pub mod MadeLines
+pub mod MadeSteps
+pub mod MadeModules
+pub mod TakenRules
+pub mod TakenScopes
+pub mod TakenSubscripts
+pub mod TakenLines
+pub mod TakenWalks
+pub mod TakenBlocks
+pub mod TakenLoops
+pub mod TakenWholes

@@ -1,0 +1,12 @@
+//! What holds of programs of the forms that are taken, for the proofs of callers. These functions do nothing.
+ghost use Rattle.av_plain.specs.Laws.{TakenLaw, WrittenLaw};
+
+/// The tree that is printed for the module of a program.
+pub fn written_law()
+    ensures { WrittenLaw }
+{}
+
+/// A tree of the forms that are taken, in which no rule fails, is a sound program, but for its marks.
+pub fn taken_law()
+    ensures { TakenLaw }
+{}
