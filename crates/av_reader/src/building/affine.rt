@@ -1,8 +1,5 @@
 //! Rows of operations of the Affine dialect.
 
-ghost use Rattle.std.specs.Prelude.{◌≡◌, Some, None, IfErr, OnOk};
-ghost use Rattle.av_reader.specs.rows.AffineRows.{by_row};
-
 use super::attributes::same_texts;
 use super::loops::{
     bound, carry, loop_variable, push_operands, push_property, segment_sizes, step_of,
@@ -18,10 +15,7 @@ use av_tree::table::AffineRule;
 use av_tree::{Attr, Body, BodyArg, ExprText, MapText, Named, Node, TypeText};
 use std::alloc::Global;
 
-pub(super) fn reduce(stack: &mut Stack, rule: AffineRule, place: u32) -> Result<(), Fault>
-    ensures ok { OnOk result (by_row rule place stack.old ≡ Some stack.new) }
-    ensures misshapen { IfErr result (λ fault. fault ≡ Fault.Misshapen → by_row rule place stack.old ≡ None) }
-{
+pub(super) fn reduce(stack: &mut Stack, rule: AffineRule, place: u32) -> Result<(), Fault> {
     match rule {
         AffineRule::AffineFor => affine_for(stack, place),
         AffineRule::AffineLoad => affine_load(stack, place),
