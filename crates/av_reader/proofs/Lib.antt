@@ -5,4 +5,3 @@ pub mod Replacing
 pub mod Exits
 pub mod Numbered
 pub mod Faithful
-pub mod Whole
