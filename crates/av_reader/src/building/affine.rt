@@ -286,12 +286,7 @@ fn loop_of(alloc: Global, written: Written, place: u32) -> Result<Node, Fault>
 
 // A node with these attributes and one region.
 #[tactic(auto, unfolding(crate::specs::Operations::with_region))]
-fn with_region(
-    alloc: Global,
-    mut node: Node,
-    attrs: Seq<Named>,
-    body: Body,
-) -> Result<Node, Fault>
+fn with_region(alloc: Global, mut node: Node, attrs: Seq<Named>, body: Body) -> Result<Node, Fault>
     ensures ok { IfOk result (λ made. made ≡ the_region node attrs body) }
     ensures err { IfErr result (λ fault. fault ≡ Fault.NoMemory) }
 {
