@@ -1,6 +1,6 @@
 -- A derivation puts values of its symbols' sorts on the stack.
 use Rattle.std.proofs.Common.{◌≡◌, ℕ, zero, suc, ◌+◌, ◌<◌, ◌≤◌, List, [], ◌∷◌, ◌++◌, Option, Some, None, length, refl, sym, ap, subst, ◌∙◌, arith}
-use Rattle.std.specs.Prelude.{slice_get}
+use Rattle.std.specs.Prelude.{slice_get, IsSome}
 use Rattle.std.specs.Option.{option_map, option_and_then}
 use Rattle.std.proofs.lemmas.List.{append-nil}
 use Rattle.av_lex.specs.declared.token.Token.{Token}
@@ -12,7 +12,10 @@ use Rattle.av_tree.specs.declared.table.Rule.TheVariants as rule
 use Rattle.av_tree.specs.declared.table.Symbol.{Symbol}
 use Rattle.av_tree.specs.declared.table.Symbol.TheVariants as symbol
 use Rattle.av_tree.specs.declared.table.Test.{Test}
+use Rattle.av_tree.specs.declared.table.affine.AffineRule.{AffineRule}
+use Rattle.av_tree.specs.declared.table.affine.AffineRule.TheVariants as affine_rule
 use Rattle.av_tree.specs.Table.{symbols_of, name_of}
+use Rattle.av_tree.specs.rows.AffineRows as affine_rows
 use Rattle.av_derive.specs.declared.machine.Event.{Event}
 use Rattle.av_derive.specs.declared.machine.Event.TheVariants as event
 use Rattle.av_derive.specs.ClassOf.{spelling_of}
@@ -81,6 +84,15 @@ pub record Makes (r : Rule) (x : Name) (place : ℕ) (vs : All (sorts_of (symbol
   pub made : Of (sort_of x)
   pub replaces : by_row r place (put (sorts_of (symbols_of r)) vs under) ≡ Some (any (sort_of x) made ∷ under)
 
+some-value : {A : Type 0} (o : Option A) → IsSome o → (v : A) × (o ≡ Some v)
+some-value None h = absurd (cc)
+some-value (Some v) h = (v, refl)
+
+is-made : (r : AffineRule) (place : ℕ) (vs : All (sorts_of (affine_rows.symbols_of r))) → IsSome (affines.made r place vs)
+is-made affine_rule.AffineFor place vs = refl
+is-made affine_rule.AffineLoad place vs = refl
+is-made r place vs = refl
+
 makes : (r : Rule) (place : ℕ) (vs : All (sorts_of (symbols_of r))) (under : List Value) → Makes r (name_of r) place vs under
 makes (rule.File r) place vs under = record { made = files.made r place vs; replaces = replaced-put _ _ _ vs _ under refl }
 makes (rule.Function r) place vs under = record { made = functions.made r place vs; replaces = replaced-put _ _ _ vs _ under refl }
@@ -90,7 +102,9 @@ makes (rule.Attribute r) place vs under = record { made = attributes.made r vs; 
 makes (rule.Map r) place vs under = record { made = maps.made r vs; replaces = replaced-put _ _ _ vs _ under refl }
 makes (rule.Value r) place vs under = record { made = values.made r vs; replaces = replaced-put _ _ _ vs _ under refl }
 makes (rule.Arith r) place vs under = record { made = ariths.made r place vs; replaces = replaced-put _ _ _ vs _ under refl }
-makes (rule.Affine r) place vs under = ?
+makes (rule.Affine r) place vs under =
+    let some = some-value (affines.made r place vs) (is-made r place vs) in
+    record { made = some.0; replaces = replaced-put _ _ _ vs _ under some.1 }
 makes (rule.Subscript r) place vs under = record { made = subscripts.made r vs; replaces = replaced-put _ _ _ vs _ under refl }
 
 makes-name : (r : Rule) (x : Name) (place : ℕ) (vs : All (sorts_of (symbols_of r))) (under : List Value) → name_of r ≡ x → Makes r x place vs under
