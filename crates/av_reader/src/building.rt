@@ -46,12 +46,7 @@ pub(crate) fn build(
 }
 
 // What an event does to the values.
-fn work_out(
-    stack: &mut Stack,
-    bytes: &[u8],
-    tokens: &[Token],
-    event: Event,
-) -> Result<(), Fault>
+fn work_out(stack: &mut Stack, bytes: &[u8], tokens: &[Token], event: Event) -> Result<(), Fault>
     ensures ok { OnOk result (by_event bytes.now tokens.now event stack.old ≡ Some stack.new) }
     ensures misshapen { IfErr result (λ fault. fault ≡ Fault.Misshapen → by_event bytes.now tokens.now event stack.old ≡ None) }
 {
@@ -68,9 +63,7 @@ fn work_out(
 fn place_of(tokens: &[Token], number: u32) -> u32
     ensures { result ≡ the_place_of tokens.now number }
 {
-    tokens
-        .get(number as usize)
-        .map_or(0, |token| token.place)
+    tokens.get(number as usize).map_or(0, |token| token.place)
 }
 
 // What a row makes of the values of its symbols. A node of it stands at `place`.
