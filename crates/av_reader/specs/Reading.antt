@@ -26,8 +26,9 @@ pub record IsTree (bytes : List ℕ) (tokens : List Token) (tree : Tree) : Type 
 abbrev pub place_at : List ℕ → List Token → ℕ → ℕ
 place_at bytes tokens number = option_map_or (λ (token : Token). token.place) (slice_get tokens number) (length bytes)
 
--- The first wrong token stands at this place, and this holds of it: some list that begins with the tokens before it is
--- derived within the limits, but none that begins with it too; behind the last token nothing is wrong but that more lacks.
+-- The token of some number stands at this place, or at the end of the text one token more is asked for, and this holds of
+-- it. The tokens before it begin some list that is derived within the limits; with it they begin none, or, where one more
+-- is asked for, they are not derived themselves.
 pub record IsRefusedAt (bytes : List ℕ) (tokens : List Token) (Holds : List Class → ℕ → Type 0) (place : ℕ) : Type 0 where
   pub at : ℕ
   pub stands : place ≡ place_at bytes tokens at
@@ -35,8 +36,8 @@ pub record IsRefusedAt (bytes : List ℕ) (tokens : List Token) (Holds : List Cl
   pub wrong : IsWrongAt the_limits (classes_of bytes tokens) at
   pub holds : Holds (classes_of bytes tokens) at
 
--- what a refusal says: of the first wrong token that only a limit makes it wrong, where it is a bracket or a sign or word
--- of calculation, or that it is not so
+-- what a refusal says: where the first wrong token stands, and that only a limit makes it wrong, it being a bracket or a sign
+-- or word of calculation, or that it is not so
 abbrev pub IsRefusal : List ℕ → List Token → ReadRefusal → Type 0
 IsRefusal bytes tokens (NotAModule place) = IsRefusedAt bytes tokens IsPlainAt place
 IsRefusal bytes tokens (TooDeep place) = IsRefusedAt bytes tokens IsDeepAt place
