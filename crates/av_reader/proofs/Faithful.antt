@@ -1,7 +1,7 @@
 -- The map of an access has the values of its subscripts.
-use Rattle.std.proofs.Common.{◌≡◌, ℕ, suc, List, [], ◌∷◌, ◌++◌, length, map, reverse, Option, Some, None, add-one, refl, sym, ap, subst, ◌∙◌}
+use Rattle.std.proofs.Common.{◌≡◌, ℕ, suc, List, [], ◌∷◌, ◌++◌, length, map, reverse, add-one, refl, sym, ap, ◌∙◌}
 use Rattle.std.proofs.lemmas.List.{map-append, length-append, reverse-append, reverse-reverse}
-use Rattle.std.specs.Prelude.{ℤ, neg_ℤ, ◌+ℤ◌, ◌-ℤ◌, ◌*ℤ◌, codes, option_and_then, option_map}
+use Rattle.std.specs.Prelude.{ℤ, neg_ℤ, ◌+ℤ◌, ◌-ℤ◌, ◌*ℤ◌, codes}
 use Rattle.av_affine.specs.Values.{floor_quotient, ceil_quotient, remainder}
 use Rattle.av_tree.specs.declared.written.ExprText.{ExprText, Name, Const, Neg', Add', Sub', Mul', Mod', Floor', Ceil', end_of-ExprText, more_of-ExprText}
 use Rattle.av_tree.specs.declared.written.ExprText.TheVariants as expr
@@ -41,10 +41,10 @@ module _ (values parameters : List ℕ → ℤ) where
   AllStand : Leaves → Type 0
   AllStand leaves = Stand (codes "d") leaves.dims × Stand (codes "s") leaves.syms
 
-  -- what stood before stands, and the expression has the value
-  record Kept (before after : Leaves) (e : ExprText) (value : ℤ) : Type 0 where
-    stood : AllStand after → AllStand before
-    same : AllStand after → text_value parameters e ≡ value
+  -- what stood before stands, and the numbered expression has the value
+  record Kept (before : Leaves) (made : ExprText × Leaves) (value : ℤ) : Type 0 where
+    stood : AllStand made.1 → AllStand before
+    same : AllStand made.1 → text_value parameters made.0 ≡ value
 
   value-Name : (name : List ℕ) → text_value parameters (expr.Name name) ≡ parameters name
   unfolding text_value shape-the_row-ExprText-0 hidden-the_row-ExprText-0 hidden
@@ -58,66 +58,37 @@ module _ (values parameters : List ℕ → ℤ) where
   unfolding text_value shape-the_row-ExprText-0 hidden-the_row-ExprText-0 hidden
   value-Neg a = refl
 
-  name_kept : (kinds : List LeafKind) (value : List ℕ) (before after : Leaves) (e : ExprText)
-      → option_map {U = ExprText × Leaves} (λ (p : List ℕ × Leaves). (expr.Name p.0, p.1)) (next_parameter kinds value before) ≡ Some (e, after)
-      → Kept before after e (values value)
+  name_kept : (kinds : List LeafKind) (value : List ℕ) (before : Leaves)
+      → Kept before (let next = next_parameter kinds value before in (expr.Name next.0, next.1)) (values value)
   unfolding AllStand
-  name_kept [] value before after e h = absurd (cc)
-  name_kept (Dimension ∷ kinds) value before after e h =
-      let later : Leaves = record before { kinds = kinds; dims = before.dims ++ value ∷ [] } in
-      let is : ◌≡◌ {A = ExprText × Leaves} (expr.Name (name_of (codes "d") (length before.dims)), later) (e, after) = cc in
-      subst (λ (p : ExprText × Leaves). Kept before p.1 p.0 (values value)) is (record {
-        stood = λ k. ((one_stands (codes "d") before.dims value k.0).0, k.1);
-        same = λ k. value-Name (name_of (codes "d") (length before.dims)) ∙ (one_stands (codes "d") before.dims value k.0).1;
-      })
-  name_kept (Symbol ∷ kinds) value before after e h =
-      let later : Leaves = record before { kinds = kinds; syms = before.syms ++ value ∷ [] } in
-      let is : ◌≡◌ {A = ExprText × Leaves} (expr.Name (name_of (codes "s") (length before.syms)), later) (e, after) = cc in
-      subst (λ (p : ExprText × Leaves). Kept before p.1 p.0 (values value)) is (record {
-        stood = λ k. (k.0, (one_stands (codes "s") before.syms value k.1).0);
-        same = λ k. value-Name (name_of (codes "s") (length before.syms)) ∙ (one_stands (codes "s") before.syms value k.1).1;
-      })
+  name_kept [] value before = record {
+    stood = λ k. ((one_stands (codes "d") before.dims value k.0).0, k.1);
+    same = λ k. value-Name (name_of (codes "d") (length before.dims)) ∙ (one_stands (codes "d") before.dims value k.0).1;
+  }
+  name_kept (Dimension ∷ kinds) value before = record {
+    stood = λ k. ((one_stands (codes "d") before.dims value k.0).0, k.1);
+    same = λ k. value-Name (name_of (codes "d") (length before.dims)) ∙ (one_stands (codes "d") before.dims value k.0).1;
+  }
+  name_kept (Symbol ∷ kinds) value before = record {
+    stood = λ k. (k.0, (one_stands (codes "s") before.syms value k.1).0);
+    same = λ k. value-Name (name_of (codes "s") (length before.syms)) ∙ (one_stands (codes "s") before.syms value k.1).1;
+  }
 
-  constant_kept : (z : ℤ) (before after : Leaves) (e : ExprText) → ◌≡◌ {A = Option (ExprText × Leaves)} (Some (expr.Const z, before)) (Some (e, after)) → Kept before after e z
-  constant_kept z before after e h =
-      let is : ◌≡◌ {A = ExprText × Leaves} (expr.Const z, before) (e, after) = cc in
-      subst (λ (p : ExprText × Leaves). Kept before p.1 p.0 z) is (record { stood = λ k. k; same = λ k. value-Const z })
+  constant_kept : (z : ℤ) (before : Leaves) → Kept before (expr.Const z, before) z
+  constant_kept z before = record { stood = λ k. k; same = λ k. value-Const z }
 
-  negation_kept : (inside : Option (ExprText × Leaves)) (before after : Leaves) (e : ExprText) (x : ℤ)
-      → option_map {U = ExprText × Leaves} (λ (p : ExprText × Leaves). (expr.Neg p.0, p.1)) inside ≡ Some (e, after)
-      → ((c : ExprText) (then : Leaves) → inside ≡ Some (c, then) → Kept before then c x)
-      → Kept before after e (neg_ℤ x)
-  negation_kept None before after e x h first = absurd (cc)
-  negation_kept (Some p) before after e x h first =
-      let is : ◌≡◌ {A = ExprText × Leaves} (expr.Neg p.0, p.1) (e, after) = cc in
-      let a = first p.0 p.1 refl in
-      subst (λ (q : ExprText × Leaves). Kept before q.1 q.0 (neg_ℤ x)) is (record { stood = a.stood; same = λ k. value-Neg p.0 ∙ ap neg_ℤ (a.same k) })
+  negation_kept : (before : Leaves) (side : ExprText × Leaves) (x : ℤ) → Kept before side x → Kept before (expr.Neg side.0, side.1) (neg_ℤ x)
+  negation_kept before side x a = record { stood = a.stood; same = λ k. value-Neg side.0 ∙ ap neg_ℤ (a.same k) }
 
   -- a calculation of two sides
   module _ (calculation : ExprText → ExprText → ExprText) (on : ℤ → ℤ → ℤ)
       (level : (c d : ExprText) → text_value parameters (calculation c d) ≡ on (text_value parameters c) (text_value parameters d)) where
-    right_kept : (right : Option (ExprText × Leaves)) (before between after : Leaves) (c e : ExprText) (x y : ℤ)
-        → option_map {U = ExprText × Leaves} (λ (r : ExprText × Leaves). (calculation c r.0, r.1)) right ≡ Some (e, after)
-        → Kept before between c x
-        → ((d : ExprText) (then : Leaves) → right ≡ Some (d, then) → Kept between then d y)
-        → Kept before after e (on x y)
-    right_kept None before between after c e x y h a second = absurd (cc)
-    right_kept (Some r) before between after c e x y h a second =
-        let is : ◌≡◌ {A = ExprText × Leaves} (calculation c r.0, r.1) (e, after) = cc in
-        let b = second r.0 r.1 refl in
-        subst (λ (q : ExprText × Leaves). Kept before q.1 q.0 (on x y)) is (record {
-          stood = λ k. a.stood (b.stood k);
-          same = λ k. level c r.0 ∙ ap (λ u. on u (text_value parameters r.0)) (a.same (b.stood k)) ∙ ap (on x) (b.same k);
-        })
-
-    both_kept : (left : Option (ExprText × Leaves)) (right : Leaves → Option (ExprText × Leaves)) (before after : Leaves) (e : ExprText) (x y : ℤ)
-        → both calculation left right ≡ Some (e, after)
-        → ((c : ExprText) (then : Leaves) → left ≡ Some (c, then) → Kept before then c x)
-        → ((between then : Leaves) (d : ExprText) → right between ≡ Some (d, then) → Kept between then d y)
-        → Kept before after e (on x y)
-    both_kept None right before after e x y h first second = absurd (cc)
-    both_kept (Some p) right before after e x y h first second =
-        right_kept (right p.1) before p.1 after p.0 e x y h (first p.0 p.1 refl) (λ d then g. second p.1 then d g)
+    both_kept : (before : Leaves) (left : ExprText × Leaves) (right : Leaves → ExprText × Leaves) (x y : ℤ)
+        → Kept before left x → Kept left.1 (right left.1) y → Kept before (both calculation left right) (on x y)
+    both_kept before left right x y a b = record {
+      stood = λ k. a.stood (b.stood k);
+      same = λ k. level left.0 (right left.1).0 ∙ ap (λ u. on u (text_value parameters (right left.1).0)) (a.same (b.stood k)) ∙ ap (on x) (b.same k);
+    }
 
   value-Add : (a b : ExprText) → text_value parameters (expr.Add a b) ≡ text_value parameters a +ℤ text_value parameters b
   unfolding text_value shape-the_row-ExprText-0 hidden-the_row-ExprText-0 hidden
@@ -143,86 +114,52 @@ module _ (values parameters : List ℕ → ℤ) where
   unfolding text_value shape-the_row-ExprText-0 hidden-the_row-ExprText-0 hidden
   value-Ceil a b = refl
 
-  kept : (source : ExprText) (before after : Leaves) (e : ExprText) → numbered source before ≡ Some (e, after) → Kept before after e (text_value values source)
+  kept : (source : ExprText) (before : Leaves) → Kept before (numbered source before) (text_value values source)
   unfolding numbered text_value
-  kept (Name value) before after e h = name_kept before.kinds value before after e h
-  kept (Const z) before after e h = constant_kept z before after e h
-  kept (Neg' s (more_of-ExprText a end_of-ExprText)) before after e h =
-      negation_kept (numbered a before) before after e (text_value values a) h (λ c then g. kept a before then c g)
-  kept (Add' s (more_of-ExprText a end_of-ExprText) t (more_of-ExprText b end_of-ExprText)) before after e h =
-      both_kept expr.Add (λ (x y : ℤ). x +ℤ y) value-Add (numbered a before) (numbered b) before after e (text_value values a) (text_value values b) h
-      (λ c then g. kept a before then c g) (λ between then d g. kept b between then d g)
-  kept (Sub' s (more_of-ExprText a end_of-ExprText) t (more_of-ExprText b end_of-ExprText)) before after e h =
-      both_kept expr.Sub (λ (x y : ℤ). x -ℤ y) value-Sub (numbered a before) (numbered b) before after e (text_value values a) (text_value values b) h
-      (λ c then g. kept a before then c g) (λ between then d g. kept b between then d g)
-  kept (Mul' s (more_of-ExprText a end_of-ExprText) t (more_of-ExprText b end_of-ExprText)) before after e h =
-      both_kept expr.Mul (λ (x y : ℤ). x *ℤ y) value-Mul (numbered a before) (numbered b) before after e (text_value values a) (text_value values b) h
-      (λ c then g. kept a before then c g) (λ between then d g. kept b between then d g)
-  kept (Mod' s (more_of-ExprText a end_of-ExprText) t (more_of-ExprText b end_of-ExprText)) before after e h =
-      both_kept expr.Mod remainder value-Mod (numbered a before) (numbered b) before after e (text_value values a) (text_value values b) h
-      (λ c then g. kept a before then c g) (λ between then d g. kept b between then d g)
-  kept (Floor' s (more_of-ExprText a end_of-ExprText) t (more_of-ExprText b end_of-ExprText)) before after e h =
-      both_kept expr.Floor floor_quotient value-Floor (numbered a before) (numbered b) before after e (text_value values a) (text_value values b) h
-      (λ c then g. kept a before then c g) (λ between then d g. kept b between then d g)
-  kept (Ceil' s (more_of-ExprText a end_of-ExprText) t (more_of-ExprText b end_of-ExprText)) before after e h =
-      both_kept expr.Ceil ceil_quotient value-Ceil (numbered a before) (numbered b) before after e (text_value values a) (text_value values b) h
-      (λ c then g. kept a before then c g) (λ between then d g. kept b between then d g)
+  kept (Name value) before = name_kept before.kinds value before
+  kept (Const z) before = constant_kept z before
+  kept (Neg' s (more_of-ExprText a end_of-ExprText)) before = negation_kept before (numbered a before) (text_value values a) (kept a before)
+  kept (Add' s (more_of-ExprText a end_of-ExprText) t (more_of-ExprText b end_of-ExprText)) before =
+      both_kept expr.Add (λ (x y : ℤ). x +ℤ y) value-Add before (numbered a before) (numbered b) (text_value values a) (text_value values b) (kept a before) (kept b (numbered a before).1)
+  kept (Sub' s (more_of-ExprText a end_of-ExprText) t (more_of-ExprText b end_of-ExprText)) before =
+      both_kept expr.Sub (λ (x y : ℤ). x -ℤ y) value-Sub before (numbered a before) (numbered b) (text_value values a) (text_value values b) (kept a before) (kept b (numbered a before).1)
+  kept (Mul' s (more_of-ExprText a end_of-ExprText) t (more_of-ExprText b end_of-ExprText)) before =
+      both_kept expr.Mul (λ (x y : ℤ). x *ℤ y) value-Mul before (numbered a before) (numbered b) (text_value values a) (text_value values b) (kept a before) (kept b (numbered a before).1)
+  kept (Mod' s (more_of-ExprText a end_of-ExprText) t (more_of-ExprText b end_of-ExprText)) before =
+      both_kept expr.Mod remainder value-Mod before (numbered a before) (numbered b) (text_value values a) (text_value values b) (kept a before) (kept b (numbered a before).1)
+  kept (Floor' s (more_of-ExprText a end_of-ExprText) t (more_of-ExprText b end_of-ExprText)) before =
+      both_kept expr.Floor floor_quotient value-Floor before (numbered a before) (numbered b) (text_value values a) (text_value values b) (kept a before) (kept b (numbered a before).1)
+  kept (Ceil' s (more_of-ExprText a end_of-ExprText) t (more_of-ExprText b end_of-ExprText)) before =
+      both_kept expr.Ceil ceil_quotient value-Ceil before (numbered a before) (numbered b) (text_value values a) (text_value values b) (kept a before) (kept b (numbered a before).1)
 
   -- all subscripts
-  record AllKept (before after : Leaves) (es : List ExprText) (subscripts : List Expression) : Type 0 where
-    stood : AllStand after → AllStand before
-    same : AllStand after → map (λ (e : ExprText). text_value parameters e) es ≡ map (λ (s : Expression). text_value values s.expr) subscripts
+  record AllKept (before : Leaves) (made : List ExprText × Leaves) (subscripts : List Expression) : Type 0 where
+    stood : AllStand made.1 → AllStand before
+    same : AllStand made.1 → map (λ (e : ExprText). text_value parameters e) made.0 ≡ map (λ (s : Expression). text_value values s.expr) subscripts
 
-  more_kept : (more : Option (List ExprText × Leaves)) (before between after : Leaves) (c : ExprText) (es : List ExprText) (s : Expression) (rest : List Expression)
-      → option_map {U = List ExprText × Leaves} (λ (r : List ExprText × Leaves). (c ∷ r.0, r.1)) more ≡ Some (es, after)
-      → Kept before between c (text_value values s.expr)
-      → ((ds : List ExprText) (then : Leaves) → more ≡ Some (ds, then) → AllKept between then ds rest)
-      → AllKept before after es (s ∷ rest)
-  more_kept None before between after c es s rest h a others = absurd (cc)
-  more_kept (Some r) before between after c es s rest h a others =
-      let is : ◌≡◌ {A = List ExprText × Leaves} (c ∷ r.0, r.1) (es, after) = cc in
-      let b = others r.0 r.1 refl in
-      subst (λ (q : List ExprText × Leaves). AllKept before q.1 q.0 (s ∷ rest)) is (record {
-        stood = λ k. a.stood (b.stood k);
-        same = λ k. ap (λ z. z ∷ map (λ (e : ExprText). text_value parameters e) r.0) (a.same (b.stood k)) ∙ ap (λ zs. text_value values s.expr ∷ zs) (b.same k);
-      })
-
-  first_kept : (first : Option (ExprText × Leaves)) (more : Leaves → Option (List ExprText × Leaves)) (before after : Leaves) (es : List ExprText) (s : Expression) (rest : List Expression)
-      → option_and_then {U = List ExprText × Leaves} (λ (f : ExprText × Leaves). option_map {U = List ExprText × Leaves} (λ (r : List ExprText × Leaves). (f.0 ∷ r.0, r.1)) (more f.1)) first ≡ Some (es, after)
-      → ((c : ExprText) (then : Leaves) → first ≡ Some (c, then) → Kept before then c (text_value values s.expr))
-      → ((between then : Leaves) (ds : List ExprText) → more between ≡ Some (ds, then) → AllKept between then ds rest)
-      → AllKept before after es (s ∷ rest)
-  first_kept None more before after es s rest h one others = absurd (cc)
-  first_kept (Some p) more before after es s rest h one others =
-      more_kept (more p.1) before p.1 after p.0 es s rest h (one p.0 p.1 refl) (λ ds then g. others p.1 then ds g)
-
-  with_kinds : (before after : Leaves) (kinds : List LeafKind) (e : ExprText) (x : ℤ) → Kept (record before { kinds = kinds }) after e x → Kept before after e x
+  first_kept : (before : Leaves) (first : ExprText × Leaves) (more : List ExprText × Leaves) (s : Expression) (rest : List Expression)
+      → Kept (record before { kinds = s.leaves }) first (text_value values s.expr) → AllKept first.1 more rest → AllKept before (first.0 ∷ more.0, more.1) (s ∷ rest)
   unfolding AllStand
-  with_kinds before after kinds e x k = record { stood = k.stood; same = k.same }
+  first_kept before first more s rest a b = record {
+    stood = λ k. a.stood (b.stood k);
+    same = λ k. ap (λ z. z ∷ map (λ (e : ExprText). text_value parameters e) more.0) (a.same (b.stood k)) ∙ ap (λ zs. text_value values s.expr ∷ zs) (b.same k);
+  }
 
-  all_kept : (subscripts : List Expression) (before after : Leaves) (es : List ExprText) → numbered_all subscripts before ≡ Some (es, after) → AllKept before after es subscripts
+  all_kept : (subscripts : List Expression) (before : Leaves) → AllKept before (numbered_all subscripts before) subscripts
   unfolding numbered_all
-  all_kept [] before after es h =
-      let is : ◌≡◌ {A = List ExprText × Leaves} ([], before) (es, after) = cc in
-      subst (λ (q : List ExprText × Leaves). AllKept before q.1 q.0 []) is (record { stood = λ k. k; same = λ k. refl })
-  all_kept (s ∷ rest) before after es h =
-      first_kept (numbered s.expr (record before { kinds = s.leaves })) (numbered_all rest) before after es s rest h
-      (λ c then g. with_kinds before then s.leaves c (text_value values s.expr) (kept s.expr (record before { kinds = s.leaves }) then c g))
-      (λ between then ds g. all_kept rest between then ds g)
+  all_kept [] before = record { stood = λ k. k; same = λ k. refl }
+  all_kept (s ∷ rest) before =
+      let start = record before { kinds = s.leaves } in
+      let first = numbered s.expr start in
+      first_kept before first (numbered_all rest first.1) s rest (kept s.expr start) (all_kept rest first.1)
 
-  map_kept : (all : Option (List ExprText × Leaves)) (n : Numbering) (subscripts : List Expression)
-      → option_map (λ (p : List ExprText × Leaves). numbering_of p.0 p.1) all ≡ Some n
-      → ((es : List ExprText) (then : Leaves) → all ≡ Some (es, then) → AllKept no_leaves then es subscripts)
-      → map parameters n.map.dims ≡ map values n.dims → map parameters n.map.syms ≡ map values n.syms
-      → map (λ (e : ExprText). text_value parameters e) n.map.results ≡ map (λ (s : Expression). text_value values s.expr) subscripts
+  map_kept : (made : List ExprText × Leaves) (subscripts : List Expression) → AllKept no_leaves made subscripts
+      → map parameters (numbering_of made.0 made.1).map.dims ≡ map values (numbering_of made.0 made.1).dims
+      → map parameters (numbering_of made.0 made.1).map.syms ≡ map values (numbering_of made.0 made.1).syms
+      → map (λ (e : ExprText). text_value parameters e) made.0 ≡ map (λ (s : Expression). text_value values s.expr) subscripts
   unfolding AllStand Stand
-  map_kept None n subscripts h kept = absurd (cc)
-  map_kept (Some p) n subscripts h kept =
-      let is : numbering_of p.0 p.1 ≡ n = cc in
-      subst (λ (m : Numbering). map parameters m.map.dims ≡ map values m.dims → map parameters m.map.syms ≡ map values m.syms
-      → map (λ (e : ExprText). text_value parameters e) m.map.results ≡ map (λ (s : Expression). text_value values s.expr) subscripts)
-      is (λ dims syms. (kept p.0 p.1 refl).same (dims, syms))
+  map_kept made subscripts kept dims syms = kept.same (dims, syms)
 
-pub faithful : (subscripts : List Expression) (n : Numbering) → numbering subscripts ≡ Some n → IsFaithful n subscripts
-faithful subscripts n h values parameters dims syms =
-    map_kept values parameters (numbered_all subscripts no_leaves) n subscripts h (λ es then g. all_kept values parameters subscripts no_leaves then es g) dims syms
+pub faithful : (subscripts : List Expression) → IsFaithful (numbering subscripts) subscripts
+faithful subscripts values parameters dims syms =
+    map_kept values parameters (numbered_all subscripts no_leaves) subscripts (all_kept values parameters subscripts no_leaves) dims syms

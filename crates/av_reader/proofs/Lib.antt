@@ -5,4 +5,6 @@ pub mod Replacing
 pub mod Exits
 pub mod Numbered
 pub mod Faithful
-pub mod Whole
+pub mod Typed
+pub mod Refusing
+pub mod Worked

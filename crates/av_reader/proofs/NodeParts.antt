@@ -48,7 +48,7 @@ next_pair lists pairs under pair types before type e f = sym
     ∙ ap (with_pairs lists (pair ∷ reverse under)) (reverse-append before (type ∷ [])))
 
 pub no_pair : (lists : CarriedLists) (pairs : List CarriedPair) (types before : List TypeText) (type : TypeText)
-    → pairs ≡ [] → types ≡ before ++ type ∷ [] → with_pairs lists (reverse pairs) (reverse types) ≡ None
+    → pairs ≡ [] → types ≡ before ++ type ∷ [] → with_pairs lists (reverse pairs) (reverse types) ≡ lists
 unfolding with_pairs
 no_pair lists pairs types before type e f =
     ap (λ (ps : List CarriedPair). with_pairs lists (reverse ps) (reverse types)) e
@@ -56,7 +56,7 @@ no_pair lists pairs types before type e f =
     ∙ ap (with_pairs lists []) (reverse-append before (type ∷ []))
 
 pub no_type : (lists : CarriedLists) (pairs : List CarriedPair) (types : List TypeText)
-    → types ≡ [] → with_pairs lists (reverse pairs) (reverse types) ≡ Some lists
+    → types ≡ [] → with_pairs lists (reverse pairs) (reverse types) ≡ lists
 unfolding with_pairs
 no_type lists pairs types e = ap (λ (ts : List TypeText). with_pairs lists (reverse pairs) (reverse ts)) e
 

@@ -1,5 +1,5 @@
 -- The map of an access: one parameter for each value in its subscripts.
-use Rattle.std.specs.Prelude.{ℕ, zero, suc, ◌≡◌, ◌+◌, List, [], ◌∷◌, ◌++◌, length, reverse, codes, decimal, Option, Some, None, option_and_then, option_map}
+use Rattle.std.specs.Prelude.{ℕ, zero, suc, ◌≡◌, ◌+◌, List, [], ◌∷◌, ◌++◌, length, reverse, codes, decimal}
 use Rattle.av_tree.specs.declared.written.ExprText.{ExprText, Name, Const, Neg', Add', Sub', Mul', Mod', Floor', Ceil', end_of-ExprText, more_of-ExprText}
 use Rattle.av_tree.specs.declared.written.ExprText.TheVariants as expr
 use Rattle.av_reader.specs.declared.building.value.LeafKind.{LeafKind}
@@ -12,24 +12,24 @@ use Rattle.av_reader.specs.declared.building.subscripts.Numbering.{Numbering}
 abbrev pub name_of : List ℕ → ℕ → List ℕ
 name_of letter number = letter ++ decimal number
 
--- the leaves of a kind get the next number of this kind; none where kinds lack
-abbrev pub next_parameter : List LeafKind → List ℕ → Leaves → Option (List ℕ × Leaves)
-next_parameter [] value leaves = None
+-- the leaves of a kind get the next number of this kind; where kinds lack, a leaf is a dimension
+abbrev pub next_parameter : List LeafKind → List ℕ → Leaves → List ℕ × Leaves
+next_parameter [] value leaves =
+    (name_of (codes "d") (length leaves.dims), record leaves { kinds = []; dims = leaves.dims ++ value ∷ [] })
 next_parameter (Dimension ∷ kinds) value leaves =
-    Some (name_of (codes "d") (length leaves.dims), record leaves { kinds = kinds; dims = leaves.dims ++ value ∷ [] })
+    (name_of (codes "d") (length leaves.dims), record leaves { kinds = kinds; dims = leaves.dims ++ value ∷ [] })
 next_parameter (Symbol ∷ kinds) value leaves =
-    Some (name_of (codes "s") (length leaves.syms), record leaves { kinds = kinds; syms = leaves.syms ++ value ∷ [] })
+    (name_of (codes "s") (length leaves.syms), record leaves { kinds = kinds; syms = leaves.syms ++ value ∷ [] })
 
 -- one side, then the other
-abbrev pub both : (ExprText → ExprText → ExprText) → Option (ExprText × Leaves) → (Leaves → Option (ExprText × Leaves)) → Option (ExprText × Leaves)
-both calculation left right =
-    option_and_then (λ (l : ExprText × Leaves). option_map (λ (r : ExprText × Leaves). (calculation l.0 r.0, r.1)) (right l.1)) left
+abbrev pub both : (ExprText → ExprText → ExprText) → ExprText × Leaves → (Leaves → ExprText × Leaves) → ExprText × Leaves
+both calculation left right = let more = right left.1 in (calculation left.0 more.0, more.1)
 
 -- an expression with parameters in place of its values, from the left to the right
-unfoldable pub numbered : ExprText → Leaves → Option (ExprText × Leaves)
-numbered (Name value) leaves = option_map (λ (p : List ℕ × Leaves). (expr.Name p.0, p.1)) (next_parameter leaves.kinds value leaves)
-numbered (Const z) leaves = Some (expr.Const z, leaves)
-numbered (Neg' s (more_of-ExprText a end_of-ExprText)) leaves = option_map (λ (p : ExprText × Leaves). (expr.Neg p.0, p.1)) (numbered a leaves)
+unfoldable pub numbered : ExprText → Leaves → ExprText × Leaves
+numbered (Name value) leaves = let next = next_parameter leaves.kinds value leaves in (expr.Name next.0, next.1)
+numbered (Const z) leaves = (expr.Const z, leaves)
+numbered (Neg' s (more_of-ExprText a end_of-ExprText)) leaves = let side = numbered a leaves in (expr.Neg side.0, side.1)
 numbered (Add' s (more_of-ExprText a end_of-ExprText) t (more_of-ExprText b end_of-ExprText)) leaves = both expr.Add (numbered a leaves) (numbered b)
 numbered (Sub' s (more_of-ExprText a end_of-ExprText) t (more_of-ExprText b end_of-ExprText)) leaves = both expr.Sub (numbered a leaves) (numbered b)
 numbered (Mul' s (more_of-ExprText a end_of-ExprText) t (more_of-ExprText b end_of-ExprText)) leaves = both expr.Mul (numbered a leaves) (numbered b)
@@ -38,11 +38,12 @@ numbered (Floor' s (more_of-ExprText a end_of-ExprText) t (more_of-ExprText b en
 numbered (Ceil' s (more_of-ExprText a end_of-ExprText) t (more_of-ExprText b end_of-ExprText)) leaves = both expr.Ceil (numbered a leaves) (numbered b)
 
 -- all subscripts of an access, the first one first; each has the kinds of its own leaves
-unfoldable pub numbered_all : List Expression → Leaves → Option (List ExprText × Leaves)
-numbered_all [] leaves = Some ([], leaves)
+unfoldable pub numbered_all : List Expression → Leaves → List ExprText × Leaves
+numbered_all [] leaves = ([], leaves)
 numbered_all (subscript ∷ subscripts) leaves =
-    option_and_then (λ (first : ExprText × Leaves). option_map (λ (more : List ExprText × Leaves). (first.0 ∷ more.0, more.1)) (numbered_all subscripts first.1))
-    (numbered subscript.expr (record leaves { kinds = subscript.leaves }))
+    let first = numbered subscript.expr (record leaves { kinds = subscript.leaves }) in
+    let more = numbered_all subscripts first.1 in
+    (first.0 ∷ more.0, more.1)
 
 -- the names of so many parameters with this letter
 unfoldable pub first_names : List ℕ → ℕ → List (List ℕ)
@@ -65,8 +66,8 @@ abbrev pub no_leaves : Leaves
 no_leaves = record { kinds = []; dims = []; syms = [] }
 
 -- the map of an access with these subscripts, the first one first
-abbrev pub numbering : List Expression → Option Numbering
-numbering subscripts = option_map (λ (p : List ExprText × Leaves). numbering_of p.0 p.1) (numbered_all subscripts no_leaves)
+abbrev pub numbering : List Expression → Numbering
+numbering subscripts = let all = numbered_all subscripts no_leaves in numbering_of all.0 all.1
 
 -- the leaves as the program holds them, the next kind last
 abbrev pub turned : Leaves → Leaves

@@ -1,5 +1,5 @@
 -- The values and the tree that events make, worked out from the last of them to the first.
-use Rattle.std.specs.Prelude.{ℕ, ◌+◌, ◌∷◌, List, [], drop, take, length, nat_le, if◌then◌else◌, slice_get, Option, Some, None}
+use Rattle.std.specs.Prelude.{ℕ, ◌∷◌, List, [], slice_get, Option, Some, None}
 use Rattle.std.specs.Option.{option_map, option_map_or, option_and_then}
 use Rattle.av_lex.specs.declared.token.Token.{Token}
 use Rattle.av_tree.specs.declared.node.Tree.{Tree}
@@ -7,9 +7,9 @@ use Rattle.av_tree.specs.declared.table.Rule.{Rule}
 use Rattle.av_tree.specs.declared.table.Rule.TheVariants as rule
 use Rattle.av_derive.specs.declared.machine.Event.{Event}
 use Rattle.av_derive.specs.declared.machine.Event.TheVariants as event
+use Rattle.av_derive.specs.ClassOf.{spelling_of}
 use Rattle.av_reader.specs.declared.building.value.Value.{Value}
 use Rattle.av_reader.specs.declared.building.value.Value.TheVariants as value
-use Rattle.av_reader.specs.Sorts.{a_tree, on_top}
 use Rattle.av_reader.specs.rows.FileRows as files
 use Rattle.av_reader.specs.rows.FunctionRows as functions
 use Rattle.av_reader.specs.rows.RegionRows as regions
@@ -34,23 +34,25 @@ by_row (rule.Arith r) place = ariths.by_row r place
 by_row (rule.Affine r) place = affines.by_row r place
 by_row (rule.Subscript r) place = subscripts.by_row r
 
--- the bytes of a token in its text; none where the token isn't of the text
-abbrev pub spelling : List ℕ → Token → List ℕ
-spelling bytes token = if nat_le (token.place + token.length) (length bytes) then take token.length (drop token.place bytes) else []
-
 -- the place of the token of a number; 0 at the end of the tokens
 abbrev pub place_of : List Token → ℕ → ℕ
 place_of tokens number = option_map_or (λ (token : Token). token.place) (slice_get tokens number) 0
 
--- the stack of values that events make: a token puts its spelling on it, and a row takes the values of its symbols off it and puts on it what it makes of them
+-- what an event does to a stack of values: a token puts its spelling on it, and a row takes the values of its symbols off it and puts on it what it makes of them
+abbrev pub by_event : List ℕ → List Token → Event → List Value → Option (List Value)
+by_event bytes tokens (event.Token number) under = option_map (λ (token : Token). value.Text (spelling_of bytes token) ∷ under) (slice_get tokens number)
+by_event bytes tokens (event.Row r number) under = by_row r (place_of tokens number) under
+
+-- the stack of values that events make, from the last of them to the first
 unfoldable pub values_of : List ℕ → List Token → List Event → Option (List Value)
 values_of bytes tokens [] = Some []
-values_of bytes tokens (event.Token number ∷ events) =
-    option_and_then (λ (under : List Value). option_map (λ (token : Token). value.Text (spelling bytes token) ∷ under) (slice_get tokens number))
-    (values_of bytes tokens events)
-values_of bytes tokens (event.Row r number ∷ events) = option_and_then (by_row r (place_of tokens number)) (values_of bytes tokens events)
+values_of bytes tokens (next ∷ events) = option_and_then (by_event bytes tokens next) (values_of bytes tokens events)
 
--- the tree that events make
+-- the one tree that a stack of values is; none where no tree is on top, or something lies under it
+abbrev pub only_tree : List Value → Option Tree
+only_tree (value.Tree tree ∷ []) = Some tree
+only_tree values = None
+
+-- the tree that events make; none where what they make isn't one tree alone
 abbrev pub tree_of : List ℕ → List Token → List Event → Option Tree
-tree_of bytes tokens events =
-    option_and_then (λ (values : List Value). option_map (λ (top : Tree × List Value). top.0) (on_top a_tree values)) (values_of bytes tokens events)
+tree_of bytes tokens events = option_and_then only_tree (values_of bytes tokens events)

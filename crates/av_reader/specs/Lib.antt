@@ -8,3 +8,4 @@ pub mod Accesses
 pub mod Meanings
 pub mod Operations
 pub mod Building
+pub mod Reading

@@ -1,11 +1,12 @@
 -- The parts of a loop.
-use Rattle.std.specs.Prelude.{ℕ, ℤ, pos, Bool, false, ◌||◌, ◌-◌, if◌then◌else◌, List, [], ◌∷◌, ◌++◌, length, map, slice_get, codes, Option, Some, None}
+use Rattle.std.specs.Prelude.{ℕ, ℤ, pos, Bool, false, ◌||◌, ◌-◌, if◌then◌else◌, List, [], ◌∷◌, ◌++◌, length, map, slice_get, codes, Some}
 use Rattle.std.specs.Option.{option_map_or}
 use Rattle.std.specs.Str.{bytes_eq}
 use Rattle.av_tree.specs.declared.node.Node.{Node, out-Node, roll-Node}
 use Rattle.av_tree.specs.declared.node.BodyArg.{BodyArg}
 use Rattle.av_tree.specs.declared.attribute.Attr.{Attr}
 use Rattle.av_tree.specs.declared.attribute.Attr.TheVariants as attr
+use Rattle.av_tree.specs.declared.written.ExprText.TheVariants as expr
 use Rattle.av_tree.specs.declared.written.TypeText.{TypeText}
 use Rattle.av_tree.specs.declared.written.TypeText.TheVariants as ty
 use Rattle.av_reader.specs.declared.building.value.MapUse.{MapUse}
@@ -26,6 +27,18 @@ step value = attr.Number value index_type
 -- how many operands the bounds have, and how many values are carried
 abbrev pub segments : ℕ → ℕ → ℕ → Attr
 segments lower upper carried = attr.Array (ty.Scalar (codes "i32")) (pos lower ∷ pos upper ∷ pos carried ∷ [])
+
+-- the bound of a number, which is the map `() -> (number)`
+abbrev pub bound_of_number : ℤ → MapUse
+bound_of_number number =
+    record { map = attr.Map (record { dims = []; syms = []; results = expr.Const number ∷ [] }); operands = [] }
+
+-- the bound of a value, which is the map `()[s0] -> (s0)` of it
+abbrev pub bound_of_value : List ℕ → MapUse
+bound_of_value value = record {
+  map = attr.Map (record { dims = []; syms = codes "s0" ∷ []; results = expr.Name (codes "s0") ∷ [] });
+  operands = value ∷ [];
+}
 
 -- with the map and the operands of a bound
 abbrev pub with_bound : Node → List ℕ → MapUse → Node
@@ -52,14 +65,14 @@ with_pair lists pair type = record {
   args = lists.args ++ record { name = pair.name; ty = type } ∷ [];
 }
 
--- with a carried argument of each of the types; none where arguments lack
-unfoldable pub with_pairs : CarriedLists → List CarriedPair → List TypeText → Option CarriedLists
-with_pairs lists pairs [] = Some lists
-with_pairs lists [] (type ∷ types) = None
+-- with a carried argument of each of the types, as far as there are arguments
+unfoldable pub with_pairs : CarriedLists → List CarriedPair → List TypeText → CarriedLists
+with_pairs lists pairs [] = lists
+with_pairs lists [] (type ∷ types) = lists
 with_pairs lists (pair ∷ pairs) (type ∷ types) = with_pairs (with_pair lists pair type) pairs types
 
 -- the first values of carried arguments of these types, and the arguments
-abbrev pub carried_lists : List CarriedPair → List TypeText → Option CarriedLists
+abbrev pub carried_lists : List CarriedPair → List TypeText → CarriedLists
 carried_lists pairs types = with_pairs (record { inits = []; args = [] }) pairs types
 
 -- with carried values of these types as operands, and a result of each of the types

@@ -1,5 +1,5 @@
 -- The operations that rows make.
-use Rattle.std.specs.Prelude.{ℕ, ℤ, Bool, false, List, [], ◌∷◌, ◌++◌, codes, drop, length, map, reverse, if◌then◌else◌, Option, Some, None, option_map, option_and_then}
+use Rattle.std.specs.Prelude.{ℕ, ℤ, Bool, false, List, [], ◌∷◌, ◌++◌, codes, drop, length, map, reverse, if◌then◌else◌, Option, Some, None}
 use Rattle.std.specs.Str.{bytes_eq}
 use Rattle.av_tree.specs.declared.node.Node.{Node, out-Node, roll-Node}
 use Rattle.av_tree.specs.declared.node.Body.{Body, roll-Body}
@@ -13,8 +13,6 @@ use Rattle.av_reader.specs.declared.building.value.Constant.{Constant}
 use Rattle.av_reader.specs.declared.building.value.MapUse.{MapUse}
 use Rattle.av_reader.specs.declared.building.value.Carried.{Carried}
 use Rattle.av_reader.specs.declared.building.value.Expression.{Expression}
-use Rattle.av_reader.specs.declared.building.loops.CarriedLists.{CarriedLists}
-use Rattle.av_reader.specs.declared.building.subscripts.Numbering.{Numbering}
 use Rattle.av_reader.specs.Nodes.{plain, entry, with_property, with_operands}
 use Rattle.av_reader.specs.Loops.{carried_lists, counter, segments, step, terminated, with_bound, with_carried}
 use Rattle.av_reader.specs.Accesses.{numbering}
@@ -93,33 +91,42 @@ with_one_type node operands properties type = roll-Node (record (out-Node node) 
 abbrev pub binary_of : List ℕ → List ℕ → List ℕ → List Named → TypeText → ℕ → Node
 binary_of word left right properties type place = with_one_type (plain word place) (left ∷ right ∷ []) (reverse properties) type
 
+-- with these attributes and one region
+unfoldable pub with_region : Node → List Named → Body → Node
+with_region node attrs body = roll-Node (record (out-Node node) { attrs = attrs; regions = body ∷ [] })
+
+-- with these attributes, and a buffer of this type as one operand more
+unfoldable pub with_buffer : Node → List ℕ → TypeText → List Named → Node
+with_buffer node buffer type attrs = roll-Node (record (out-Node node) {
+  operands = (out-Node node).operands ++ buffer ∷ [];
+  in_types = (out-Node node).in_types ++ Some type ∷ [];
+  attrs = attrs;
+})
+
+-- with one result, whose type isn't written
+unfoldable pub with_unwritten_result : Node → Node
+with_unwritten_result node = roll-Node (record (out-Node node) { out_types = None ∷ [] })
+
 -- a loop of this counter, bounds, step, carried values, operations and attributes, the lists from the last to the first
-abbrev pub loop_of : List ℕ → MapUse → MapUse → ℤ → Carried → List Node → List Named → ℕ → Option Node
-loop_of name lower upper by carried nodes attrs place = option_map (λ (lists : CarriedLists).
+abbrev pub loop_of : List ℕ → MapUse → MapUse → ℤ → Carried → List Node → List Named → ℕ → Node
+loop_of name lower upper by carried nodes attrs place =
+    let lists = carried_lists (reverse carried.pairs) carried.types in
     let bounded = with_bound (with_bound (plain (codes "affine.for") place) (codes "lowerBoundMap") lower) (codes "upperBoundMap") upper in
     let stepped = with_property bounded (codes "step") (step by) in
     let sizes = segments (length lower.operands) (length upper.operands) (length carried.types) in
     let whole = with_property (with_carried stepped lists.inits carried.types) (codes "operandSegmentSizes") sizes in
-    roll-Node (record (out-Node whole) {
-      attrs = reverse attrs;
-      regions = roll-Body (record { args = counter name ∷ lists.args; nodes = terminated (reverse nodes) }) ∷ [];
-    })) (carried_lists (reverse carried.pairs) carried.types)
+    with_region whole (reverse attrs) (roll-Body (record { args = counter name ∷ lists.args; nodes = terminated (reverse nodes) }))
 
--- an operation with a buffer of this type as its last operand so far, and then the operands and the map of its subscripts
-abbrev pub access_of : Node → List ℕ → List Expression → List Named → TypeText → Option Node
-access_of node buffer subscripts attrs type = option_map (λ (n : Numbering).
-    let before = roll-Node (record (out-Node node) {
-      operands = (out-Node node).operands ++ buffer ∷ [];
-      in_types = (out-Node node).in_types ++ Some type ∷ [];
-      attrs = reverse attrs;
-    }) in
-    with_property (with_operands (with_operands before n.dims) n.syms) (codes "map") (attr.Map n.map)) (numbering (reverse subscripts))
+-- an operation with a buffer of this type as its last operand so far, and then the operands and the map of its subscripts, the last one first
+abbrev pub access_of : Node → List ℕ → List Expression → List Named → TypeText → Node
+access_of node buffer subscripts attrs type =
+    let n = numbering (reverse subscripts) in
+    with_property (with_operands (with_operands (with_buffer node buffer type (reverse attrs)) n.dims) n.syms) (codes "map") (attr.Map n.map)
 
-abbrev pub load_of : List ℕ → List Expression → List Named → TypeText → ℕ → Option Node
+abbrev pub load_of : List ℕ → List Expression → List Named → TypeText → ℕ → Node
 load_of buffer subscripts attrs type place =
-    option_map (λ (node : Node). roll-Node (record (out-Node node) { out_types = None ∷ [] }))
-    (access_of (plain (codes "affine.load") place) buffer subscripts attrs type)
+    with_unwritten_result (access_of (plain (codes "affine.load") place) buffer subscripts attrs type)
 
-abbrev pub store_of : List ℕ → List ℕ → List Expression → List Named → TypeText → ℕ → Option Node
+abbrev pub store_of : List ℕ → List ℕ → List Expression → List Named → TypeText → ℕ → Node
 store_of value buffer subscripts attrs type place =
     access_of (with_operands (plain (codes "affine.store") place) (value ∷ [])) buffer subscripts attrs type

@@ -4,6 +4,9 @@
 //! spelling there, and a row takes the values of its symbols, the first of them on top, and puts one
 //! value in their place. Lists grow at their front, so here they hold their last item first.
 
+ghost use Rattle.std.specs.Prelude.{◌≡◌, Some, None, IfErr, IfOk, OnOk};
+ghost use Rattle.av_reader.specs.Building.{by_event, by_row, place_of as the_place_of, tree_of};
+
 mod affine;
 mod attributes;
 mod expressions;
@@ -31,25 +34,43 @@ pub(crate) fn build(
     bytes: &[u8],
     tokens: &[Token],
     mut events: Vec<Event>,
-) -> Result<Tree, Fault> {
+) -> Result<Tree, Fault>
+    ensures ok { IfOk result (λ tree. tree_of bytes.now tokens.now events.items ≡ Some tree) }
+    ensures misshapen { IfErr result (λ fault. fault ≡ Fault.Misshapen → tree_of bytes.now tokens.now events.items ≡ None) }
+{
     let mut stack = Stack::new(alloc);
     while let Some(event) = events.pop() {
-        match event {
-            Event::Token(at) => {
-                let token = tokens.get(at as usize).ok_or(Fault::Misshapen)?;
-                stack.push_spelling(spelling_of(bytes, token))?;
-            }
-            Event::Row { rule, at } => {
-                let place = tokens.get(at as usize).map_or(0, |token| token.place);
-                reduce(&mut stack, rule, place)?;
-            }
-        }
+        work_out(&mut stack, bytes, tokens, event)?;
     }
-    stack.tree()
+    stack.only_tree()
+}
+
+// What an event does to the values.
+fn work_out(stack: &mut Stack, bytes: &[u8], tokens: &[Token], event: Event) -> Result<(), Fault>
+    ensures ok { OnOk result (by_event bytes.now tokens.now event stack.old ≡ Some stack.new) }
+    ensures misshapen { IfErr result (λ fault. fault ≡ Fault.Misshapen → by_event bytes.now tokens.now event stack.old ≡ None) }
+{
+    match event {
+        Event::Token(at) => {
+            let token = tokens.get(at as usize).ok_or(Fault::Misshapen)?;
+            stack.push_spelling(spelling_of(bytes, token))
+        }
+        Event::Row { rule, at } => reduce(stack, rule, place_of(tokens, at)),
+    }
+}
+
+// The place of the token of a number; 0 at the end of the tokens.
+fn place_of(tokens: &[Token], number: u32) -> u32
+    ensures { result ≡ the_place_of tokens.now number }
+{
+    tokens.get(number as usize).map_or(0, |token| token.place)
 }
 
 // What a row makes of the values of its symbols. A node of it stands at `place`.
-fn reduce(stack: &mut Stack, rule: Rule, place: u32) -> Result<(), Fault> {
+fn reduce(stack: &mut Stack, rule: Rule, place: u32) -> Result<(), Fault>
+    ensures ok { OnOk result (by_row rule place stack.old ≡ Some stack.new) }
+    ensures misshapen { IfErr result (λ fault. fault ≡ Fault.Misshapen → by_row rule place stack.old ≡ None) }
+{
     match rule {
         Rule::File(rule) => files::reduce_file(stack, rule, place),
         Rule::Function(rule) => files::reduce_function(stack, rule, place),

@@ -1,6 +1,8 @@
 //! Reading: tokens to a tree, or the place of the first wrong token.
 
-ghost use Rattle.std.specs.Prelude.{◌<◌, ◌^◌, length};
+ghost use Rattle.std.specs.Prelude.{◌≡◌, ◌≢◌, ◌<◌, ◌^◌, length, IfErr, IfOk};
+ghost use Rattle.av_tree.specs.declared.node.Tree.{Tree as OneTree};
+ghost use Rattle.av_reader.specs.Reading.{IsRefusal, IsTree, place_at as the_place_at};
 
 use super::building::{BuildFault, build};
 use av_derive::{Limits, Stop, classes_of, derive};
@@ -24,6 +26,11 @@ pub enum ReadRefusal {
 }
 
 impl From<AllocError> for ReadRefusal {
+    ghost use Rattle.std.specs.Prelude.{◌≡◌};
+    ghost use Rattle.av_reader.specs.declared.reading.ReadRefusal.TheVariants.{NoMemory};
+
+    ghost from_gives = { λ _ refusal. refusal ≡ NoMemory };
+
     fn from(_fault: AllocError) -> ReadRefusal {
         ReadRefusal::NoMemory
     }
@@ -43,23 +50,40 @@ pub const LIMITS: Limits = Limits {
 /// The tokens are those of no tree, or memory lacks.
 pub fn read(alloc: Global, bytes: &[u8], tokens: &[Token]) -> Result<Tree, ReadRefusal>
     requires { length bytes.now < 2 ^ 32 }
+    ensures tree { IfOk result (λ tree. IsTree bytes.now tokens.now tree) }
+    ensures only { IfOk result (λ tree. (other : OneTree) → IsTree bytes.now tokens.now other → other ≡ tree) }
+    ensures none { IfErr result (λ refusal. refusal ≢ ReadRefusal.NoMemory → (tree : OneTree) → IsTree bytes.now tokens.now tree → ⊥) }
+    ensures place { IfErr result (λ refusal. IsRefusal bytes.now tokens.now refusal) }
 {
     let classes = classes_of(alloc, bytes, tokens)?;
     let events = match derive(alloc, &classes, LIMITS) {
         Ok(events) => events,
         Err(refused) => {
-            let end = u32::try_from(bytes.len()).unwrap_or(u32::MAX);
-            let place = tokens.get(refused.at).map_or(end, |token| token.place);
+            let place = place_at(bytes, tokens, refused.at);
             return Err(refusal(refused.stop, place));
         }
     };
-    build(alloc, bytes, tokens, events).map_err(|fault| match fault {
-        BuildFault::NoMemory => ReadRefusal::NoMemory,
-        BuildFault::Misshapen => ReadRefusal::NotAModule(0),
-    })
+    match build(alloc, bytes, tokens, events) {
+        Ok(tree) => Ok(tree),
+        Err(BuildFault::NoMemory) => Err(ReadRefusal::NoMemory),
+        Err(BuildFault::Misshapen) => unreachable!(),
+    }
 }
 
-fn refusal(stop: Stop, place: u32) -> ReadRefusal {
+// The place of the token of a number; behind the last token the number of bytes.
+fn place_at(bytes: &[u8], tokens: &[Token], number: usize) -> u32
+    requires { length bytes.now < 2 ^ 32 }
+    ensures { result ≡ the_place_at bytes.now tokens.now number }
+{
+    let end = bytes.len() as u32;
+    tokens.get(number).map_or(end, |token| token.place)
+}
+
+fn refusal(stop: Stop, place: u32) -> ReadRefusal
+    ensures wrong { stop ≡ Stop.Wrong → result ≡ ReadRefusal.NotAModule place }
+    ensures deep { stop ≡ Stop.TooDeep → result ≡ ReadRefusal.TooDeep place }
+    ensures memory { stop ≡ Stop.NoMemory → result ≡ ReadRefusal.NoMemory }
+{
     match stop {
         Stop::Wrong => ReadRefusal::NotAModule(place),
         Stop::TooDeep => ReadRefusal::TooDeep(place),

@@ -1,27 +1,24 @@
--- What the rows of operations of the Affine dialect make of the values of their symbols; a loop is not made where carried arguments lack, nor an access where the kinds of its values lack. A list holds its last item first.
-use Rattle.std.specs.Prelude.{ℕ, List, [], ◌∷◌, ◌++◌, codes, false, pos, reverse, Option, Some}
+-- What the rows of operations of the Affine dialect make of the values of their symbols. A list holds its last item first.
+use Rattle.std.specs.Prelude.{ℕ, List, [], ◌∷◌, ◌++◌, false, pos, reverse, Option, Some}
 use Rattle.av_tree.specs.declared.table.affine.AffineRule.{AffineRule}
 use Rattle.av_tree.specs.declared.table.affine.AffineRule.TheVariants as affine_rule
 use Rattle.av_tree.specs.rows.AffineRows.{symbols_of, name_of}
-use Rattle.av_tree.specs.declared.attribute.Attr.TheVariants as attr
-use Rattle.av_tree.specs.declared.written.ExprText.TheVariants as expr
 use Rattle.av_reader.specs.Numbers.{spelled_integer}
+use Rattle.av_reader.specs.Loops.{bound_of_number, bound_of_value}
 use Rattle.av_reader.specs.Operations.{load_of, loop_of, store_of}
 use Rattle.av_reader.specs.declared.building.value.Value.{Value}
 use Rattle.av_reader.specs.Sorts.{All, Of, replaced, sort_of, sorts_of}
 
 abbrev pub made : (r : AffineRule) → ℕ → All (sorts_of (symbols_of r)) → Option (Of (sort_of (name_of r)))
-made affine_rule.AffineFor place (name, (lower, (upper, (by, (carried, (nodes, (attrs, _))))))) = loop_of name lower upper by carried nodes attrs place
-made affine_rule.AffineLoad place (buffer, (subscripts, (attrs, (type, _)))) = load_of buffer subscripts attrs type place
-made affine_rule.AffineStore place (value, (buffer, (subscripts, (attrs, (type, _))))) = store_of value buffer subscripts attrs type place
+made affine_rule.AffineFor place (name, (lower, (upper, (by, (carried, (nodes, (attrs, _))))))) = Some (loop_of name lower upper by carried nodes attrs place)
+made affine_rule.AffineLoad place (buffer, (subscripts, (attrs, (type, _)))) = Some (load_of buffer subscripts attrs type place)
+made affine_rule.AffineStore place (value, (buffer, (subscripts, (attrs, (type, _))))) = Some (store_of value buffer subscripts attrs type place)
 made affine_rule.GreatestOf place (bound, _) = Some bound
 made affine_rule.PlainLowerBound place (bound, _) = Some bound
 made affine_rule.LeastOf place (bound, _) = Some bound
 made affine_rule.PlainUpperBound place (bound, _) = Some bound
-made affine_rule.NumberBound place (number, _) =
-    Some (record { map = attr.Map (record { dims = []; syms = []; results = expr.Const number ∷ [] }); operands = [] })
-made affine_rule.ValueBound place (value, _) =
-    Some (record { map = attr.Map (record { dims = []; syms = codes "s0" ∷ []; results = expr.Name (codes "s0") ∷ [] }); operands = value ∷ [] })
+made affine_rule.NumberBound place (number, _) = Some (bound_of_number number)
+made affine_rule.ValueBound place (value, _) = Some (bound_of_value value)
 made affine_rule.MapBound place (bound, _) = Some bound
 made affine_rule.NoStep place _ = Some (pos 1)
 made affine_rule.WrittenStep place (digits, _) = Some (spelled_integer digits false)

@@ -1,6 +1,11 @@
 //! Rows of operations of the Affine dialect.
 
-use super::attributes::same_texts;
+ghost use Rattle.std.specs.Prelude.{◌≡◌, ◌++◌, Some, None, IfErr, IfOk, OnOk};
+ghost use Rattle.av_reader.specs.Loops.{bound_of_number, bound_of_value};
+ghost use Rattle.av_reader.specs.Operations.{access_of, load_of as the_load_of, loop_of as the_loop_of, store_of as the_store_of, with_buffer, with_region as the_region, with_unwritten_result};
+ghost use Rattle.av_reader.specs.rows.AffineRows.{by_row};
+
+use super::attributes::{no_texts, same_texts};
 use super::loops::{
     bound, carry, loop_variable, push_operands, push_property, segment_sizes, step_of,
     with_terminator,
@@ -12,83 +17,142 @@ use super::subscripts::{Numbering, place_map};
 use super::value::{Carried, CarriedPair, Expression, MapUse};
 use av_affine::{Seq, Text};
 use av_tree::table::AffineRule;
-use av_tree::{Attr, Body, BodyArg, ExprText, MapText, Named, Node, TypeText};
+use av_tree::{Attr, Body, ExprText, MapText, Named, Node, TypeText};
 use std::alloc::Global;
 
-pub(super) fn reduce(stack: &mut Stack, rule: AffineRule, place: u32) -> Result<(), Fault> {
+pub(super) fn reduce(stack: &mut Stack, rule: AffineRule, place: u32) -> Result<(), Fault>
+    ensures ok { OnOk result (by_row rule place stack.old ≡ Some stack.new) }
+    ensures misshapen { IfErr result (λ fault. fault ≡ Fault.Misshapen → by_row rule place stack.old ≡ None) }
+{
     match rule {
         AffineRule::AffineFor => affine_for(stack, place),
         AffineRule::AffineLoad => affine_load(stack, place),
         AffineRule::AffineStore => affine_store(stack, place),
-        AffineRule::GreatestOf
-        | AffineRule::PlainLowerBound
-        | AffineRule::LeastOf
-        | AffineRule::PlainUpperBound
-        | AffineRule::MapBound => same_map_use(stack),
+        AffineRule::GreatestOf => same_map_use(stack),
+        AffineRule::PlainLowerBound => same_map_use(stack),
+        AffineRule::LeastOf => same_map_use(stack),
+        AffineRule::PlainUpperBound => same_map_use(stack),
+        AffineRule::MapBound => same_map_use(stack),
         AffineRule::NumberBound => number_bound(stack),
         AffineRule::ValueBound => value_bound(stack),
-        AffineRule::NoStep => stack.push_number(1),
+        AffineRule::NoStep => no_step(stack),
         AffineRule::WrittenStep => written_step(stack),
-        AffineRule::NoIterArgs | AffineRule::NoCarried | AffineRule::NoMoreCarried => {
-            none_carried(stack)
-        }
+        AffineRule::NoIterArgs => none_carried(stack),
+        AffineRule::NoCarried => none_carried(stack),
+        AffineRule::NoMoreCarried => none_carried(stack),
         AffineRule::WrittenIterArgs => same_carried(stack),
-        AffineRule::FirstCarried | AffineRule::NextCarried => carried(stack),
+        AffineRule::FirstCarried => carried(stack),
+        AffineRule::NextCarried => carried(stack),
         AffineRule::MapWritten => map_written(stack),
         AffineRule::DimensionOperands => dimension_operands(stack),
-        AffineRule::NoSymbolOperands => stack.push_texts(Seq::new(stack.alloc())),
+        AffineRule::NoSymbolOperands => no_texts(stack),
         AffineRule::WrittenSymbolOperands => same_texts(stack),
     }
 }
 
-fn same_map_use(stack: &mut Stack) -> Result<(), Fault> {
+#[tactic(auto, using(crate::proofs::Replacing::replacing))]
+fn same_map_use(stack: &mut Stack) -> Result<(), Fault>
+    ensures ok { OnOk result (by_row AffineRule.MapBound 0 stack.old ≡ Some stack.new) }
+    ensures misshapen { IfErr result (λ fault. fault ≡ Fault.Misshapen → by_row AffineRule.MapBound 0 stack.old ≡ None) }
+{
     let map_use = stack.map_use()?;
-    stack.push_map_use(map_use)
+    stack.push_map_use(map_use)?;
+    Ok(())
 }
 
-fn written_step(stack: &mut Stack) -> Result<(), Fault> {
+#[tactic(auto, using(crate::proofs::Replacing::replacing))]
+fn no_step(stack: &mut Stack) -> Result<(), Fault>
+    ensures ok { OnOk result (by_row AffineRule.NoStep 0 stack.old ≡ Some stack.new) }
+    ensures misshapen { IfErr result (λ fault. fault ≡ Fault.Misshapen → by_row AffineRule.NoStep 0 stack.old ≡ None) }
+{
+    stack.push_number(1)?;
+    Ok(())
+}
+
+#[tactic(auto, using(crate::proofs::Replacing::replacing))]
+fn written_step(stack: &mut Stack) -> Result<(), Fault>
+    ensures ok { OnOk result (by_row AffineRule.WrittenStep 0 stack.old ≡ Some stack.new) }
+    ensures misshapen { IfErr result (λ fault. fault ≡ Fault.Misshapen → by_row AffineRule.WrittenStep 0 stack.old ≡ None) }
+{
     let digits = stack.text()?;
     let step = integer_of(&digits, false);
-    stack.push_number(step)
+    stack.push_number(step)?;
+    Ok(())
 }
 
-fn none_carried(stack: &mut Stack) -> Result<(), Fault> {
+#[tactic(auto, using(crate::proofs::Replacing::replacing))]
+fn none_carried(stack: &mut Stack) -> Result<(), Fault>
+    ensures ok { OnOk result (by_row AffineRule.NoIterArgs 0 stack.old ≡ Some stack.new) }
+    ensures misshapen { IfErr result (λ fault. fault ≡ Fault.Misshapen → by_row AffineRule.NoIterArgs 0 stack.old ≡ None) }
+{
     let alloc = stack.alloc();
     stack.push_carried(Carried {
         pairs: Seq::new(alloc),
         types: Seq::new(alloc),
-    })
+    })?;
+    Ok(())
 }
 
-fn same_carried(stack: &mut Stack) -> Result<(), Fault> {
+#[tactic(auto, using(crate::proofs::Replacing::replacing))]
+fn same_carried(stack: &mut Stack) -> Result<(), Fault>
+    ensures ok { OnOk result (by_row AffineRule.WrittenIterArgs 0 stack.old ≡ Some stack.new) }
+    ensures misshapen { IfErr result (λ fault. fault ≡ Fault.Misshapen → by_row AffineRule.WrittenIterArgs 0 stack.old ≡ None) }
+{
     let carried = stack.carried()?;
-    stack.push_carried(carried)
+    stack.push_carried(carried)?;
+    Ok(())
 }
 
-fn map_written(stack: &mut Stack) -> Result<(), Fault> {
+#[tactic(auto, using(crate::proofs::Replacing::replacing))]
+fn map_written(stack: &mut Stack) -> Result<(), Fault>
+    ensures ok { OnOk result (by_row AffineRule.MapWritten 0 stack.old ≡ Some stack.new) }
+    ensures misshapen { IfErr result (λ fault. fault ≡ Fault.Misshapen → by_row AffineRule.MapWritten 0 stack.old ≡ None) }
+{
     let map = stack.attr()?;
     let operands = stack.texts()?;
     let operands = in_order(operands);
-    stack.push_map_use(MapUse { map, operands })
+    stack.push_map_use(MapUse { map, operands })?;
+    Ok(())
 }
 
 // The operands of dimensions before those of symbols, both from the last to the first.
-fn dimension_operands(stack: &mut Stack) -> Result<(), Fault> {
+#[tactic(auto, using(crate::proofs::Replacing::replacing))]
+fn dimension_operands(stack: &mut Stack) -> Result<(), Fault>
+    ensures ok { OnOk result (by_row AffineRule.DimensionOperands 0 stack.old ≡ Some stack.new) }
+    ensures misshapen { IfErr result (λ fault. fault ≡ Fault.Misshapen → by_row AffineRule.DimensionOperands 0 stack.old ≡ None) }
+{
     let dims = stack.texts()?;
-    let mut operands = stack.texts()?;
-    operands.append(dims)?;
-    stack.push_texts(operands)
+    let syms = stack.texts()?;
+    let operands = both(dims, syms)?;
+    stack.push_texts(operands)?;
+    Ok(())
 }
 
-fn number_bound(stack: &mut Stack) -> Result<(), Fault> {
+fn both(dims: Seq<Text>, mut syms: Seq<Text>) -> Result<Seq<Text>, Fault>
+    ensures ok { IfOk result (λ operands. operands ≡ syms ++ dims) }
+    ensures err { IfErr result (λ fault. fault ≡ Fault.NoMemory) }
+{
+    syms.append(dims)?;
+    Ok(syms)
+}
+
+#[tactic(auto, using(crate::proofs::Replacing::replacing))]
+fn number_bound(stack: &mut Stack) -> Result<(), Fault>
+    ensures ok { OnOk result (by_row AffineRule.NumberBound 0 stack.old ≡ Some stack.new) }
+    ensures misshapen { IfErr result (λ fault. fault ≡ Fault.Misshapen → by_row AffineRule.NumberBound 0 stack.old ≡ None) }
+{
     let alloc = stack.alloc();
     let number = stack.number()?;
     let bound = constant_map(alloc, number)?;
-    stack.push_map_use(bound)
+    stack.push_map_use(bound)?;
+    Ok(())
 }
 
 // `() -> (number)`
-fn constant_map(alloc: Global, number: i128) -> Result<MapUse, Fault> {
+fn constant_map(alloc: Global, number: i128) -> Result<MapUse, Fault>
+    ensures ok { IfOk result (λ bound. bound ≡ bound_of_number number) }
+    ensures err { IfErr result (λ fault. fault ≡ Fault.NoMemory) }
+{
     let mut results = Seq::new(alloc);
     results.push(ExprText::Const(number))?;
     let map = MapText {
@@ -102,15 +166,23 @@ fn constant_map(alloc: Global, number: i128) -> Result<MapUse, Fault> {
     })
 }
 
-fn value_bound(stack: &mut Stack) -> Result<(), Fault> {
+#[tactic(auto, using(crate::proofs::Replacing::replacing))]
+fn value_bound(stack: &mut Stack) -> Result<(), Fault>
+    ensures ok { OnOk result (by_row AffineRule.ValueBound 0 stack.old ≡ Some stack.new) }
+    ensures misshapen { IfErr result (λ fault. fault ≡ Fault.Misshapen → by_row AffineRule.ValueBound 0 stack.old ≡ None) }
+{
     let alloc = stack.alloc();
     let value = stack.text()?;
     let bound = symbol_map(alloc, value)?;
-    stack.push_map_use(bound)
+    stack.push_map_use(bound)?;
+    Ok(())
 }
 
 // `()[s0] -> (s0)` of the value
-fn symbol_map(alloc: Global, value: Text) -> Result<MapUse, Fault> {
+fn symbol_map(alloc: Global, value: Text) -> Result<MapUse, Fault>
+    ensures ok { IfOk result (λ bound. bound ≡ bound_of_value value) }
+    ensures err { IfErr result (λ fault. fault ≡ Fault.NoMemory) }
+{
     let mut syms = Seq::new(alloc);
     syms.push(text_of(alloc, b"s0")?)?;
     let mut results = Seq::new(alloc);
@@ -128,19 +200,24 @@ fn symbol_map(alloc: Global, value: Text) -> Result<MapUse, Fault> {
     })
 }
 
-fn carried(stack: &mut Stack) -> Result<(), Fault> {
+#[tactic(auto, using(crate::proofs::Replacing::replacing))]
+fn carried(stack: &mut Stack) -> Result<(), Fault>
+    ensures ok { OnOk result (by_row AffineRule.NextCarried 0 stack.old ≡ Some stack.new) }
+    ensures misshapen { IfErr result (λ fault. fault ≡ Fault.Misshapen → by_row AffineRule.NextCarried 0 stack.old ≡ None) }
+{
     let name = stack.text()?;
     let init = stack.text()?;
-    let Carried { pairs, types } = stack.carried()?;
+    let carried = stack.carried()?;
     let ty = stack.ty()?;
-    let pairs = before(CarriedPair { name, init }, pairs)?;
-    let types = before(ty, types)?;
-    stack.push_carried(Carried { pairs, types })
+    let pairs = before(CarriedPair { name, init }, carried.pairs)?;
+    let types = before(ty, carried.types)?;
+    stack.push_carried(Carried { pairs, types })?;
+    Ok(())
 }
 
 // What a loop is written with.
 #[derive(Drop)]
-struct Written {
+pub(super) struct Written {
     name: Text,
     lower: MapUse,
     upper: MapUse,
@@ -150,93 +227,190 @@ struct Written {
     attrs: Seq<Named>,
 }
 
-fn affine_for(stack: &mut Stack, place: u32) -> Result<(), Fault> {
+#[tactic(auto, using(crate::proofs::Replacing::replacing))]
+fn affine_for(stack: &mut Stack, place: u32) -> Result<(), Fault>
+    ensures ok { OnOk result (by_row AffineRule.AffineFor place stack.old ≡ Some stack.new) }
+    ensures misshapen { IfErr result (λ fault. fault ≡ Fault.Misshapen → by_row AffineRule.AffineFor place stack.old ≡ None) }
+{
     let alloc = stack.alloc();
+    let name = stack.text()?;
+    let lower = stack.map_use()?;
+    let upper = stack.map_use()?;
+    let step = stack.number()?;
+    let carried = stack.carried()?;
+    let nodes = stack.nodes()?;
+    let attrs = stack.entries()?;
     let written = Written {
-        name: stack.text()?,
-        lower: stack.map_use()?,
-        upper: stack.map_use()?,
-        step: stack.number()?,
-        carried: stack.carried()?,
-        nodes: stack.nodes()?,
-        attrs: stack.entries()?,
+        name,
+        lower,
+        upper,
+        step,
+        carried,
+        nodes,
+        attrs,
     };
     let node = loop_of(alloc, written, place)?;
-    stack.push_node(node)
+    stack.push_node(node)?;
+    Ok(())
 }
 
-fn loop_of(alloc: Global, written: Written, place: u32) -> Result<Node, Fault> {
-    let mut node = plain_node(alloc, text_of(alloc, b"affine.for")?, place);
+fn loop_of(alloc: Global, written: Written, place: u32) -> Result<Node, Fault>
+    ensures ok { IfOk result (λ node. node ≡ the_loop_of written.name written.lower written.upper written.step written.carried written.nodes written.attrs place) }
+    ensures err { IfErr result (λ fault. fault ≡ Fault.NoMemory) }
+{
+    let Written {
+        name,
+        lower,
+        upper,
+        step,
+        carried,
+        nodes,
+        attrs,
+    } = written;
+    let word = text_of(alloc, b"affine.for")?;
+    let mut node = plain_node(alloc, word, place);
+    let counter = loop_variable(alloc, name)?;
     let mut args = Seq::new(alloc);
-    args.push(loop_variable(alloc, written.name)?)?;
-    let lower = bound(alloc, &mut node, b"lowerBoundMap", written.lower)?;
-    let upper = bound(alloc, &mut node, b"upperBoundMap", written.upper)?;
-    push_property(alloc, &mut node, b"step", step_of(alloc, written.step)?)?;
-    let carried = carry(alloc, &mut node, &mut args, written.carried)?;
-    let sizes = segment_sizes(alloc, lower, upper, carried)?;
+    args.push(counter)?;
+    let lower_count = bound(alloc, &mut node, b"lowerBoundMap", lower)?;
+    let upper_count = bound(alloc, &mut node, b"upperBoundMap", upper)?;
+    let step = step_of(alloc, step)?;
+    push_property(alloc, &mut node, b"step", step)?;
+    let carried_count = carry(alloc, &mut node, &mut args, carried)?;
+    let sizes = segment_sizes(alloc, lower_count, upper_count, carried_count)?;
     push_property(alloc, &mut node, b"operandSegmentSizes", sizes)?;
-    node.attrs = in_order(written.attrs);
-    let nodes = with_terminator(alloc, in_order(written.nodes))?;
-    node.regions.push(Body { args, nodes })?;
+    let attrs = in_order(attrs);
+    let nodes = with_terminator(alloc, in_order(nodes))?;
+    with_region(alloc, node, attrs, Body { args, nodes })
+}
+
+// A node with these attributes and one region.
+#[tactic(auto, unfolding(crate::specs::Operations::with_region))]
+fn with_region(alloc: Global, mut node: Node, attrs: Seq<Named>, body: Body) -> Result<Node, Fault>
+    ensures ok { IfOk result (λ made. made ≡ the_region node attrs body) }
+    ensures err { IfErr result (λ fault. fault ≡ Fault.NoMemory) }
+{
+    let mut regions = Seq::new(alloc);
+    regions.push(body)?;
+    node.attrs = attrs;
+    node.regions = regions;
     Ok(node)
 }
 
 // What an access is written with, but for a stored value.
 #[derive(Drop)]
-struct WrittenAccess {
+pub(super) struct WrittenAccess {
     buffer: Text,
     subscripts: Seq<Expression>,
     attrs: Seq<Named>,
     ty: TypeText,
 }
 
-fn affine_load(stack: &mut Stack, place: u32) -> Result<(), Fault> {
+#[tactic(auto, using(crate::proofs::Replacing::replacing))]
+fn affine_load(stack: &mut Stack, place: u32) -> Result<(), Fault>
+    ensures ok { OnOk result (by_row AffineRule.AffineLoad place stack.old ≡ Some stack.new) }
+    ensures misshapen { IfErr result (λ fault. fault ≡ Fault.Misshapen → by_row AffineRule.AffineLoad place stack.old ≡ None) }
+{
     let alloc = stack.alloc();
+    let buffer = stack.text()?;
+    let subscripts = stack.expressions()?;
+    let attrs = stack.entries()?;
+    let ty = stack.ty()?;
     let written = WrittenAccess {
-        buffer: stack.text()?,
-        subscripts: stack.expressions()?,
-        attrs: stack.entries()?,
-        ty: stack.ty()?,
+        buffer,
+        subscripts,
+        attrs,
+        ty,
     };
     let node = load_of(alloc, written, place)?;
-    stack.push_node(node)
+    stack.push_node(node)?;
+    Ok(())
 }
 
-fn load_of(alloc: Global, written: WrittenAccess, place: u32) -> Result<Node, Fault> {
-    let mut node = plain_node(alloc, text_of(alloc, b"affine.load")?, place);
+fn load_of(alloc: Global, written: WrittenAccess, place: u32) -> Result<Node, Fault>
+    ensures ok { IfOk result (λ node. node ≡ the_load_of written.buffer written.subscripts written.attrs written.ty place) }
+    ensures err { IfErr result (λ fault. fault ≡ Fault.NoMemory) }
+{
+    let name = text_of(alloc, b"affine.load")?;
+    let mut node = plain_node(alloc, name, place);
     access(alloc, &mut node, written)?;
-    node.out_types.push(None)?;
+    put_unwritten_result(alloc, &mut node)?;
     Ok(node)
 }
 
-fn affine_store(stack: &mut Stack, place: u32) -> Result<(), Fault> {
-    let alloc = stack.alloc();
-    let value = stack.text()?;
-    let written = WrittenAccess {
-        buffer: stack.text()?,
-        subscripts: stack.expressions()?,
-        attrs: stack.entries()?,
-        ty: stack.ty()?,
-    };
-    let node = store_of(alloc, value, written, place)?;
-    stack.push_node(node)
+#[tactic(auto, unfolding(crate::specs::Operations::with_unwritten_result))]
+fn put_unwritten_result(alloc: Global, node: &mut Node) -> Result<(), Fault>
+    ensures ok { OnOk result (node.new ≡ with_unwritten_result node.old) }
+    ensures err { IfErr result (λ fault. fault ≡ Fault.NoMemory) }
+{
+    let mut types = Seq::new(alloc);
+    types.push(None)?;
+    node.out_types = types;
+    Ok(())
 }
 
-fn store_of(alloc: Global, value: Text, written: WrittenAccess, place: u32) -> Result<Node, Fault> {
-    let mut node = plain_node(alloc, text_of(alloc, b"affine.store")?, place);
-    node.operands.push(value)?;
-    node.in_types.push(None)?;
+#[tactic(auto, using(crate::proofs::Replacing::replacing))]
+fn affine_store(stack: &mut Stack, place: u32) -> Result<(), Fault>
+    ensures ok { OnOk result (by_row AffineRule.AffineStore place stack.old ≡ Some stack.new) }
+    ensures misshapen { IfErr result (λ fault. fault ≡ Fault.Misshapen → by_row AffineRule.AffineStore place stack.old ≡ None) }
+{
+    let alloc = stack.alloc();
+    let value = stack.text()?;
+    let buffer = stack.text()?;
+    let subscripts = stack.expressions()?;
+    let attrs = stack.entries()?;
+    let ty = stack.ty()?;
+    let written = WrittenAccess {
+        buffer,
+        subscripts,
+        attrs,
+        ty,
+    };
+    let node = store_of(alloc, value, written, place)?;
+    stack.push_node(node)?;
+    Ok(())
+}
+
+fn store_of(alloc: Global, value: Text, written: WrittenAccess, place: u32) -> Result<Node, Fault>
+    ensures ok { IfOk result (λ node. node ≡ the_store_of value written.buffer written.subscripts written.attrs written.ty place) }
+    ensures err { IfErr result (λ fault. fault ≡ Fault.NoMemory) }
+{
+    let name = text_of(alloc, b"affine.store")?;
+    let mut node = plain_node(alloc, name, place);
+    let mut stored = Seq::new(alloc);
+    stored.push(value)?;
+    push_operands(&mut node, stored)?;
     access(alloc, &mut node, written)?;
     Ok(node)
 }
 
 // The buffer, subscripts, dictionary and type of an access.
-fn access(alloc: Global, node: &mut Node, written: WrittenAccess) -> Result<(), Fault> {
-    node.attrs = in_order(written.attrs);
-    node.operands.push(written.buffer)?;
-    node.in_types.push(Some(written.ty))?;
-    let Numbering { map, dims, syms } = place_map(alloc, written.subscripts)?;
+fn access(alloc: Global, node: &mut Node, written: WrittenAccess) -> Result<(), Fault>
+    ensures ok { OnOk result (node.new ≡ access_of node.old written.buffer written.subscripts written.attrs written.ty) }
+    ensures err { IfErr result (λ fault. fault ≡ Fault.NoMemory) }
+{
+    let WrittenAccess {
+        buffer,
+        subscripts,
+        attrs,
+        ty,
+    } = written;
+    let attrs = in_order(attrs);
+    put_buffer(node, buffer, ty, attrs)?;
+    let Numbering { map, dims, syms } = place_map(alloc, subscripts)?;
     push_operands(node, dims)?;
     push_operands(node, syms)?;
-    push_property(alloc, node, b"map", Attr::Map(map))
+    push_property(alloc, node, b"map", Attr::Map(map))?;
+    Ok(())
+}
+
+#[tactic(auto, unfolding(crate::specs::Operations::with_buffer))]
+fn put_buffer(node: &mut Node, buffer: Text, ty: TypeText, attrs: Seq<Named>) -> Result<(), Fault>
+    ensures ok { OnOk result (node.new ≡ with_buffer node.old buffer ty attrs) }
+    ensures err { IfErr result (λ fault. fault ≡ Fault.NoMemory) }
+{
+    node.operands.push(buffer)?;
+    node.in_types.push(Some(ty))?;
+    node.attrs = attrs;
+    Ok(())
 }

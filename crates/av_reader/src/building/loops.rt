@@ -1,6 +1,6 @@
 //! The parts of loops, and of other operations that are made part by part.
 
-ghost use Rattle.std.specs.Prelude.{◌≡◌, ◌≤◌, ◌++◌, length, map, reverse, Some, None, IfErr, IfOk, OnOk};
+ghost use Rattle.std.specs.Prelude.{◌≡◌, ◌++◌, length, map, reverse, Some, None, IfErr, IfOk, OnOk};
 ghost use Rattle.av_reader.specs.Nodes.{with_operands, with_property};
 ghost use Rattle.av_reader.specs.Loops.{carried_lists, counter, ends_region, has_end, segments, step, terminated, with_bound, with_carried, with_pair};
 
@@ -117,12 +117,10 @@ pub(super) fn carry(
     args: &mut Seq<BodyArg>,
     carried: Carried,
 ) -> Result<usize, Fault>
-    ensures ok { OnOk result
-        ((lists : _) × (carried_lists (reverse carried.pairs) carried.types ≡ Some lists)
-        × (node.new ≡ with_carried node.old lists.inits carried.types) × (args.new ≡ args.old ++ lists.args)) }
+    ensures node { OnOk result (node.new ≡ with_carried node.old (carried_lists (reverse carried.pairs) carried.types).inits carried.types) }
+    ensures args { OnOk result (args.new ≡ args.old ++ (carried_lists (reverse carried.pairs) carried.types).args) }
     ensures number { IfOk result (λ number. number ≡ length carried.types) }
-    ensures err { IfErr result (λ fault. fault ≡ Fault.Misshapen → carried_lists (reverse carried.pairs) carried.types ≡ None) }
-    ensures whole { length carried.types ≤ length carried.pairs → IfErr result (λ fault. fault ≡ Fault.NoMemory) }
+    ensures err { IfErr result (λ fault. fault ≡ Fault.NoMemory) }
 {
     let Carried { pairs, types } = carried;
     let number = types.len();
@@ -151,14 +149,14 @@ pub(super) fn written_types(
     Ok(list)
 }
 
-// An argument of each of the types; the pairs stand from the last to the first.
+// An argument of each of the types, as far as there are pairs, which stand from the last to the first.
 fn paired(
     alloc: Global,
     mut pairs: Seq<CarriedPair>,
     types: Seq<TypeText>,
 ) -> Result<CarriedLists, Fault>
-    ensures ok { IfOk result (λ lists. carried_lists (reverse pairs) types ≡ Some lists) }
-    ensures err { IfErr result (λ fault. fault ≡ Fault.Misshapen → carried_lists (reverse pairs) types ≡ None) }
+    ensures ok { IfOk result (λ lists. lists ≡ carried_lists (reverse pairs) types) }
+    ensures err { IfErr result (λ fault. fault ≡ Fault.NoMemory) }
 {
     let mut types = in_order(types);
     let mut lists = CarriedLists {
@@ -167,7 +165,7 @@ fn paired(
     };
     while let Some(ty) = types.pop() {
         let Some(pair) = pairs.pop() else {
-            return Err(Fault::Misshapen);
+            return Ok(lists);
         };
         push_pair(&mut lists, pair, ty)?;
     }

@@ -1,6 +1,7 @@
 //! The stack of values, with one typed pop for each sort of value.
 
 ghost use Rattle.std.specs.Prelude.{◌≡◌, [], ◌∷◌, ◌++◌, Some, None, reverse, IfErr, IfOk, OnOk, OnErr};
+ghost use Rattle.av_reader.specs.Building.{only_tree as the_only_tree};
 ghost use Rattle.av_reader.specs.Sorts.{any, on_top};
 ghost use Rattle.av_reader.specs.Sorts as sorts;
 
@@ -492,6 +493,18 @@ impl Stack {
         match self.pop()? {
             Value::Tree(value) => Ok(value.into_inner()),
             _ => Err(Fault::Misshapen),
+        }
+    }
+
+    /// The tree that is the one value.
+    pub(super) fn only_tree(mut self) -> Result<Tree, Fault>
+        ensures ok { IfOk result (λ tree. the_only_tree self ≡ Some tree) }
+        ensures misshapen { OnErr result (the_only_tree self ≡ None) }
+    {
+        let tree = self.tree()?;
+        match self.pop() {
+            Ok(_) => Err(Fault::Misshapen),
+            Err(_) => Ok(tree),
         }
     }
 

@@ -1,9 +1,9 @@
 //! The map of an access: one parameter for each value in its subscripts, dimensions and symbols each
 //! numbered from the left. Operands are the values of the dimensions and then those of the symbols.
 
-ghost use Rattle.std.specs.Prelude.{◌≡◌, ◌++◌, [], ◌∷◌, decimal, length, reverse, All, Some, None, IfErr, IfOk, OnOk};
+ghost use Rattle.std.specs.Prelude.{◌≡◌, ◌++◌, [], ◌∷◌, decimal, length, reverse, IfErr, IfOk, OnOk};
 ghost use Rattle.av_reader.specs.Meanings.{IsFaithful};
-ghost use Rattle.av_reader.specs.Accesses.{IsWhole, first_names, name_of, next_parameter, numbered, numbered_all, numbering, turned};
+ghost use Rattle.av_reader.specs.Accesses.{first_names, name_of, next_parameter, numbered, numbered_all, numbering, turned};
 
 use super::stack::{Fault, in_order, text_of};
 use super::value::{Expression, LeafKind};
@@ -30,9 +30,8 @@ pub(super) struct Leaves {
 
 /// The map of subscripts, which stand from the last to the first.
 pub(super) fn place_map(alloc: Global, subscripts: Seq<Expression>) -> Result<Numbering, Fault>
-    ensures ok { IfOk result (λ n. numbering (reverse subscripts) ≡ Some n) }
-    ensures err { IfErr result (λ fault. fault ≡ Fault.Misshapen → numbering (reverse subscripts) ≡ None) }
-    ensures whole { All IsWhole (reverse subscripts) → IfErr result (λ fault. fault ≡ Fault.NoMemory) }
+    ensures ok { IfOk result (λ n. n ≡ numbering (reverse subscripts)) }
+    ensures err { IfErr result (λ fault. fault ≡ Fault.NoMemory) }
     ensures faithful { IfOk result (λ n. IsFaithful n (reverse subscripts)) }
 {
     let mut leaves = Leaves {
@@ -62,8 +61,8 @@ fn number_all(
     leaves: &mut Leaves,
     mut subscripts: Seq<Expression>,
 ) -> Result<Seq<ExprText>, Fault>
-    ensures ok { IfOk result (λ results. numbered_all (reverse subscripts) (turned leaves.old) ≡ Some (results, turned leaves.new)) }
-    ensures err { IfErr result (λ fault. fault ≡ Fault.Misshapen → numbered_all (reverse subscripts) (turned leaves.old) ≡ None) }
+    ensures ok { IfOk result (λ results. numbered_all (reverse subscripts) (turned leaves.old) ≡ (results, turned leaves.new)) }
+    ensures err { IfErr result (λ fault. fault ≡ Fault.NoMemory) }
 {
     let mut results = Seq::new(alloc);
     while let Some(subscript) = subscripts.pop() {
@@ -74,8 +73,8 @@ fn number_all(
 }
 
 fn number_one(alloc: Global, leaves: &mut Leaves, subscript: Expression) -> Result<ExprText, Fault>
-    ensures ok { IfOk result (λ e. numbered subscript.expr (record leaves.old { kinds = subscript.leaves }) ≡ Some (e, turned leaves.new)) }
-    ensures err { IfErr result (λ fault. fault ≡ Fault.Misshapen → numbered subscript.expr (record leaves.old { kinds = subscript.leaves }) ≡ None) }
+    ensures ok { IfOk result (λ e. numbered subscript.expr (record leaves.old { kinds = subscript.leaves }) ≡ (e, turned leaves.new)) }
+    ensures err { IfErr result (λ fault. fault ≡ Fault.NoMemory) }
 {
     let Expression {
         expr,
@@ -88,8 +87,8 @@ fn number_one(alloc: Global, leaves: &mut Leaves, subscript: Expression) -> Resu
 // The expression with parameters for its values.
 #[cycle(numbering)]
 fn number(alloc: Global, leaves: &mut Leaves, expr: &ExprText) -> Result<ExprText, Fault>
-    ensures ok { IfOk result (λ e. numbered expr.now (turned leaves.old) ≡ Some (e, turned leaves.new)) }
-    ensures err { IfErr result (λ fault. fault ≡ Fault.Misshapen → numbered expr.now (turned leaves.old) ≡ None) }
+    ensures ok { IfOk result (λ e. numbered expr.now (turned leaves.old) ≡ (e, turned leaves.new)) }
+    ensures err { IfErr result (λ fault. fault ≡ Fault.NoMemory) }
 {
     match expr {
         ExprText::Name(value) => {
@@ -136,23 +135,23 @@ fn number(alloc: Global, leaves: &mut Leaves, expr: &ExprText) -> Result<ExprTex
 
 #[cycle(numbering)]
 fn side(alloc: Global, leaves: &mut Leaves, expr: &Held<ExprText>) -> Result<Held<ExprText>, Fault>
-    ensures ok { IfOk result (λ e. numbered expr.now (turned leaves.old) ≡ Some (e, turned leaves.new)) }
-    ensures err { IfErr result (λ fault. fault ≡ Fault.Misshapen → numbered expr.now (turned leaves.old) ≡ None) }
+    ensures ok { IfOk result (λ e. numbered expr.now (turned leaves.old) ≡ (e, turned leaves.new)) }
+    ensures err { IfErr result (λ fault. fault ≡ Fault.NoMemory) }
 {
     let side = number(alloc, leaves, expr.get())?;
     let held = Held::new(alloc, side)?;
     Ok(held)
 }
 
-// The next parameter, for a value.
+// The next parameter, for a value; a dimension where kinds lack.
 fn parameter(alloc: Global, leaves: &mut Leaves, value: &Text) -> Result<Text, Fault>
-    ensures ok { IfOk result (λ name. next_parameter (reverse leaves.old.kinds) value.now (turned leaves.old) ≡ Some (name, turned leaves.new)) }
-    ensures err { IfErr result (λ fault. fault ≡ Fault.Misshapen → next_parameter (reverse leaves.old.kinds) value.now (turned leaves.old) ≡ None) }
+    ensures ok { IfOk result (λ name. next_parameter (reverse leaves.old.kinds) value.now (turned leaves.old) ≡ (name, turned leaves.new)) }
+    ensures err { IfErr result (λ fault. fault ≡ Fault.NoMemory) }
 {
     match leaves.kinds.pop() {
         Some(LeafKind::Dimension) => numbered_value(alloc, "d", value, &mut leaves.dims),
         Some(LeafKind::Symbol) => numbered_value(alloc, "s", value, &mut leaves.syms),
-        None => Err(Fault::Misshapen),
+        None => numbered_value(alloc, "d", value, &mut leaves.dims),
     }
 }
 

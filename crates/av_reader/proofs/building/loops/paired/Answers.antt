@@ -3,9 +3,9 @@ use Rattle.av_reader.specs.Loops.{with_pairs}
 use Rattle.av_reader.proofs.NodeParts.{next_pair, no_pair, no_type}
 use Rattle.av_reader.proofs.building.loops.paired.Goals as goal
 
-pub returns-in_default-pop-clause-err : goal.returns-in_default-pop-clause-err
-returns-in_default-pop-clause-err c _ =
-    sym c.loop-ty.invariant ∙ no_pair c.loop-ty.lists c.loop-ty.pairs c.loop-ty.types c.pop.new.self c.in-Some.ty c.in_default-pop.ensures.0 c.in-Some.ensures
+pub returns-in_default-pop-clause-ok : goal.returns-in_default-pop-clause-ok
+returns-in_default-pop-clause-ok c =
+    sym (no_pair c.loop-ty.lists c.loop-ty.pairs c.loop-ty.types c.pop.new.self c.in-Some.ty c.in_default-pop.ensures.0 c.in-Some.ensures) ∙ c.loop-ty.invariant
 
 pub loop-ty-preserved : goal.loop-ty-preserved
 loop-ty-preserved c =
@@ -14,4 +14,4 @@ loop-ty-preserved c =
     ∙ c.loop-ty.invariant
 
 pub returns-clause-ok : goal.returns-clause-ok
-returns-clause-ok c = sym c.loop-ty.invariant ∙ no_type c.loop-ty.lists c.loop-ty.pairs c.loop-ty.types c.in_default.ensures.0
+returns-clause-ok c = sym (no_type c.loop-ty.lists c.loop-ty.pairs c.loop-ty.types c.in_default.ensures.0) ∙ c.loop-ty.invariant

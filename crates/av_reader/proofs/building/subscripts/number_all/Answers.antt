@@ -1,14 +1,7 @@
 use Rattle.std.proofs.Common.{sym, ◌∙◌}
 use Rattle.av_reader.specs.Accesses.{turned}
-use Rattle.av_reader.proofs.Exits.{handed_on}
-use Rattle.av_reader.proofs.Numbered.{next_subscript, no_subscript, subscripts_end}
+use Rattle.av_reader.proofs.Numbered.{next_subscript, subscripts_end}
 use Rattle.av_reader.proofs.building.subscripts.number_all.Goals as goal
-
-pub returns-in_err-result-clause-err : goal.returns-in_err-result-clause-err
-returns-in_err-result-clause-err c =
-    handed_on c.from_residual.result _ c.in_err-result.field-0.0 c.from_residual.ensures.1
-    (λ f. sym c.loop-subscript.invariant
-    ∙ no_subscript c.loop-subscript.results c.loop-subscript.subscripts c.pop.new.self c.in-Some.subscript (turned c.loop-subscript.leaves) c.in-Some.ensures (c.in_err-result.ensures.err f))
 
 pub loop-subscript-preserved : goal.loop-subscript-preserved
 loop-subscript-preserved c =
