@@ -5,3 +5,5 @@ pub mod Outcomes
 pub mod Walks
 pub mod Counts
 pub mod Wholes
+pub mod Given
+pub mod ValueTypes
