@@ -17,7 +17,7 @@ use Rattle.av_tree.specs.declared.node.Tree.{Tree}
 use Rattle.av_verify.specs.declared.module.Mode.{Mode}
 use Rattle.av_verify.specs.Elaboration.{elaborated, gives}
 use Rattle.av_kept.specs.Headline.{EndsWith, EndsAlikeAt, EndsAlike}
-use Rattle.av_kept.proofs.NoVectors.{no_vectors}
+use Rattle.av_kept.proofs.Kept.{no_vectors}
 
 heads : (r s : Run Ended) → r ∷ [] ≡ s ∷ [] → r ≡ s
 heads r s h = cc

@@ -1,2 +1,3 @@
-pub mod NoVectors
+pub mod Parts
+pub mod Kept
 pub mod EndAlike

@@ -6,4 +6,6 @@ pub mod Walks
 pub mod Counts
 pub mod Wholes
 pub mod Given
-pub mod ValueTypes
+pub mod Rules
+pub mod GoodMaps
+pub mod Kept

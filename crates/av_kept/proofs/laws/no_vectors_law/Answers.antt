@@ -1,4 +1,4 @@
-use Rattle.av_kept.proofs.NoVectors.{no_vectors}
+use Rattle.av_kept.proofs.Kept.{no_vectors}
 use Rattle.av_kept.proofs.laws.no_vectors_law.Goals as goal
 
 pub returns : goal.returns
