@@ -5,3 +5,7 @@ pub mod Outcomes
 pub mod Walks
 pub mod Counts
 pub mod Wholes
+pub mod Given
+pub mod Rules
+pub mod GoodMaps
+pub mod Kept
