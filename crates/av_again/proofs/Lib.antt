@@ -1,0 +1,5 @@
+pub mod Fair
+pub mod Signs
+pub mod Nodes
+pub mod Values
+pub mod Rows
