@@ -3,3 +3,4 @@ pub mod Signs
 pub mod Nodes
 pub mod Values
 pub mod Rows
+pub mod Again

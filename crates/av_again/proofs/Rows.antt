@@ -53,11 +53,11 @@ use Rattle.av_reader.specs.Operations.{named, root_of, no_values}
 use Rattle.av_reader.specs.Sorts.{Of, All, replaced, sort_of, sorts_of}
 use Rattle.av_reader.specs.Building.{by_row}
 use Rattle.av_again.specs.Places.{unplaced_node, unplaced}
-use Rattle.av_again.proofs.Nodes.{named-unplaced, root-unplaced, module-unplaced, function-unplaced, terminator-unplaced, constant-unplaced, binary-unplaced}
+use Rattle.av_again.proofs.Nodes.{named-unplaced, root-unplaced, module-unplaced, function-unplaced, terminator-unplaced, constant-unplaced, binary-unplaced, load-unplaced, loop-unplaced, store-unplaced}
 use Rattle.av_again.proofs.Values.{unplaced_value, unplaced_of, unplaced_all, unplaced_onward, unplaced_terminated, replaced-under, replaced-unplaced}
 
 -- the operations after one, and it
-pub last-unplaced : (others : List Node) (node later : Node) → unplaced_node node ≡ later
+last-unplaced : (others : List Node) (node later : Node) → unplaced_node node ≡ later
     → map unplaced_node (others ++ node ∷ []) ≡ map unplaced_node others ++ later ∷ []
 last-unplaced others node later e = map-append unplaced_node others (node ∷ []) ∙ ap (λ (n : Node). map unplaced_node others ++ n ∷ []) e
 
@@ -119,3 +119,37 @@ made-subscript : (r : SubscriptRule) (parts : All (sorts_of (subscript_rows.symb
     → unplaced_of (sort_of (subscript_rows.name_of r)) (making_subscripts.made r parts) ≡ making_subscripts.made r (unplaced_all (sorts_of (subscript_rows.symbols_of r)) parts)
 made-subscript subscripts.NoSubscripts parts = refl
 made-subscript r parts = refl
+
+made-affine : (r : AffineRule) (place : ℕ) (parts : All (sorts_of (affine_rows.symbols_of r)))
+    → option_map (unplaced_of (sort_of (affine_rows.name_of r))) (making_affines.made r place parts)
+    ≡ making_affines.made r 0 (unplaced_all (sorts_of (affine_rows.symbols_of r)) parts)
+made-affine affines.AffineFor place (name, (lower, (upper, (by, (carried, (nodes, (attrs, _))))))) = ap Some (loop-unplaced name lower upper by carried nodes attrs place)
+made-affine affines.AffineLoad place (buffer, (subscripts, (attrs, (type, _)))) = ap Some (load-unplaced buffer subscripts attrs type place)
+made-affine affines.AffineStore place (value, (buffer, (subscripts, (attrs, (type, _))))) = ap Some (store-unplaced value buffer subscripts attrs type place)
+made-affine r place parts = refl
+
+-- a row does without places what it does with them
+pub row-unplaced : (r : Rule) (place : ℕ) (stack : List Value) → option_map (map unplaced_value) (by_row r place stack) ≡ by_row r 0 (map unplaced_value stack)
+row-unplaced (rule.File r) place stack = replaced-unplaced _ _ _ _ stack (λ parts. ap Some (made-file r place parts))
+row-unplaced (rule.Function r) place stack = replaced-unplaced _ _ _ _ stack (λ parts. ap Some (made-function r place parts))
+row-unplaced (rule.Region r) place stack = replaced-unplaced _ _ _ _ stack (λ parts. ap Some (made-region r place parts))
+row-unplaced (rule.Type r) place stack = replaced-unplaced _ _ _ _ stack (λ parts. ap Some (made-type r parts))
+row-unplaced (rule.Attribute r) place stack = replaced-unplaced _ _ _ _ stack (λ parts. ap Some (made-attribute r parts))
+row-unplaced (rule.Map r) place stack = replaced-unplaced _ _ _ _ stack (λ parts. ap Some (made-map r parts))
+row-unplaced (rule.Value r) place stack = replaced-unplaced _ _ _ _ stack (λ parts. ap Some (made-value r parts))
+row-unplaced (rule.Arith r) place stack = replaced-unplaced _ _ _ _ stack (λ parts. ap Some (made-arith r place parts))
+row-unplaced (rule.Affine r) place stack = replaced-unplaced _ _ _ _ stack (made-affine r place)
+row-unplaced (rule.Subscript r) place stack = replaced-unplaced _ _ _ _ stack (λ parts. ap Some (made-subscript r parts))
+
+-- and the same where more lies under the values
+pub row-under : (r : Rule) (place : ℕ) (stack under out : List Value) → by_row r place stack ≡ Some out → by_row r place (stack ++ under) ≡ Some (out ++ under)
+row-under (rule.File r) place stack under out e = replaced-under _ _ _ stack under out e
+row-under (rule.Function r) place stack under out e = replaced-under _ _ _ stack under out e
+row-under (rule.Region r) place stack under out e = replaced-under _ _ _ stack under out e
+row-under (rule.Type r) place stack under out e = replaced-under _ _ _ stack under out e
+row-under (rule.Attribute r) place stack under out e = replaced-under _ _ _ stack under out e
+row-under (rule.Map r) place stack under out e = replaced-under _ _ _ stack under out e
+row-under (rule.Value r) place stack under out e = replaced-under _ _ _ stack under out e
+row-under (rule.Arith r) place stack under out e = replaced-under _ _ _ stack under out e
+row-under (rule.Affine r) place stack under out e = replaced-under _ _ _ stack under out e
+row-under (rule.Subscript r) place stack under out e = replaced-under _ _ _ stack under out e

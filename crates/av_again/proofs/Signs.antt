@@ -28,7 +28,7 @@ abbrev pub signs_in : List Class → ℕ
 signs_in [] = 0
 signs_in (c ∷ cs) = one_if (is_calculation c) + signs_in cs
 
-both : (a b : Bool) → IsTrue (a && b) → IsTrue a × IsTrue b
+pub both : (a b : Bool) → IsTrue (a && b) → IsTrue a × IsTrue b
 both true b h = (refl, h)
 both false b h = absurd (cc)
 
@@ -44,7 +44,7 @@ other : (a b : Bool) → IsTrue (not a) → IsTrue (a || b) → IsTrue b
 other true b h k = absurd (cc)
 other false b h k = k
 
-not-true : (a : Bool) → IsTrue (not a) → a ≡ false
+pub not-true : (a : Bool) → IsTrue (not a) → a ≡ false
 not-true true h = absurd (cc)
 not-true false h = refl
 

@@ -1,31 +1,28 @@
 -- What holds of words that are read again.
-use Rattle.std.specs.Prelude.{◌≡◌, ℕ, List, [], ◌∷◌, Some}
+use Rattle.std.specs.Prelude.{◌≡◌, ℕ, List, [], ◌∷◌, map}
 use Rattle.av_lex.specs.declared.token.Token.{Token}
 use Rattle.av_tree.specs.declared.node.Tree.{Tree}
 use Rattle.av_tree.specs.declared.table.Symbol.TheVariants as symbol
 use Rattle.av_tree.specs.declared.table.Name.TheVariants as name
 use Rattle.av_tree.specs.declared.table.file.FileName.TheVariants as file_name
-use Rattle.av_derive.specs.ClassOf.{classes_of}
-use Rattle.av_derive.specs.Derivation.{Derived, WithinBrackets}
-use Rattle.av_derive.specs.declared.machine.Event.{Event}
-use Rattle.av_derive.specs.declared.machine.Limits.{Limits}
+use Rattle.av_derive.specs.Derivation.{WithinBrackets}
 use Rattle.av_reader.specs.declared.building.value.Value.TheVariants as value
-use Rattle.av_reader.specs.Building.{tree_of}
-use Rattle.av_again.specs.Making.{Word, words_of, Makes}
+use Rattle.av_reader.specs.Reading.{IsTree, the_limits}
+use Rattle.av_again.specs.Making.{Word, class_of_word, words_of, Makes}
 use Rattle.av_again.specs.Places.{unplaced}
 
--- The tokens are read within the limits as this tree, but for the places of its operations.
-pub record IsReadAs (limits : Limits) (bytes : List ℕ) (tokens : List Token) (tree : Tree) : Type 0 where
-  pub events : List Event
-  pub derived : Derived limits (classes_of bytes tokens) events
+-- the rows make this tree of the words within the limits
+pub record IsMade (words : List Word) (tree : Tree) : Type 0 where
+  pub makes : Makes the_limits.signs (symbol.Rows (name.File file_name.File) ∷ []) words (value.Tree tree ∷ [])
+  pub brackets : WithinBrackets the_limits.brackets 0 (map class_of_word words)
+
+-- the text with its tokens is read as this tree, but for the places of its operations
+pub record IsReadAs (bytes : List ℕ) (tokens : List Token) (tree : Tree) : Type 0 where
   pub read : Tree
-  pub is : tree_of bytes tokens events ≡ Some read
+  pub is : IsTree bytes tokens read
   pub same : unplaced read ≡ tree
 
--- what the rows make of the words is what reading makes of their tokens
+-- what the rows make of the words of a text is what it is read as
 abbrev pub ReadingLaw : Type 0
-ReadingLaw = (limits : Limits) (bytes : List ℕ) (tokens : List Token) (words : List Word) (tree : Tree)
-    → words_of bytes tokens ≡ words
-    → Makes limits.signs (symbol.Rows (name.File file_name.File) ∷ []) words (value.Tree tree ∷ [])
-    → WithinBrackets limits.brackets 0 (classes_of bytes tokens)
-    → IsReadAs limits bytes tokens tree
+ReadingLaw = (bytes : List ℕ) (tokens : List Token) (words : List Word) (tree : Tree)
+    → words_of bytes tokens ≡ words → IsMade words tree → IsReadAs bytes tokens tree

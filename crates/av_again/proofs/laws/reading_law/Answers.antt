@@ -1,5 +1,5 @@
-use Rattle.av_again.proofs.Values.{values_done}
+use Rattle.av_again.proofs.Again.{reading-law}
 use Rattle.av_again.proofs.laws.reading_law.Goals as goal
 
 pub returns : goal.returns
-returns c = ?
+returns c = reading-law
