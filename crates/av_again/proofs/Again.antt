@@ -188,9 +188,11 @@ module _ (bytes : List ℕ) where
           signs = λ outer before low.
               let split = both (not (is_deep x)) (all_outer ss) outer in
               let own = row-signs most before n r ws first.events (begins_expression r) refl few
-              (row-outer r (subst (λ (y : Name). IsTrue (not (is_deep y))) (sym e) split.0)) first.derives first.signs low in
-              (own.0, signs-join most (signs_with r before) first.events rest.events own.1
-              (rest.signs split.1 (signs_after (signs_with r before) first.events) (signs-bound most (signs_with r before) first.events own.0 own.1)));
+              (row-outer r (subst (λ (y : Name). IsTrue (not (is_deep y))) (sym e) split.0)) first.derives first.signs low in (
+                own.0,
+                signs-join most (signs_with r before) first.events rest.events own.1
+                    (rest.signs split.1 (signs_after (signs_with r before) first.events) (signs-bound most (signs_with r before) first.events own.0 own.1)),
+              );
         }
 
     read : {most : ℕ} {ss : List Symbol} {ws : List Word} {vs : List Value} (n : ℕ) → Makes most ss ws vs → At tokens n ws → Read most n ss ws vs

@@ -4,3 +4,4 @@ pub mod Nodes
 pub mod Values
 pub mod Rows
 pub mod Again
+pub mod Example
