@@ -18,7 +18,7 @@ mod regions;
 mod stack;
 mod subscripts;
 mod types;
-mod value;
+pub mod value;
 
 use av_derive::{Event, spelling_of};
 use av_lex::Token;

@@ -1,0 +1,7 @@
+pub mod Fair
+pub mod Signs
+pub mod Nodes
+pub mod Values
+pub mod Rows
+pub mod Again
+pub mod Example
