@@ -11,7 +11,6 @@ use Rattle.av_reader.specs.declared.building.value.LeafKind.{LeafKind}
 use Rattle.av_reader.specs.declared.building.value.LeafKind.TheVariants.{Dimension, Symbol}
 use Rattle.av_reader.specs.declared.building.value.Expression.{Expression}
 use Rattle.av_reader.specs.declared.building.subscripts.Leaves.{Leaves}
-use Rattle.av_reader.specs.declared.building.subscripts.Numbering.{Numbering}
 use Rattle.av_reader.specs.Accesses.{name_of, next_parameter, both, numbered, numbered_all, first_names, numbering_of, no_leaves, numbering}
 use Rattle.av_reader.specs.Meanings.{text_value, IsFaithful}
 

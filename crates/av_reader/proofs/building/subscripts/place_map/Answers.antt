@@ -1,6 +1,5 @@
 use Rattle.std.proofs.Common.{reverse, rules, sym, subst}
 use Rattle.av_reader.specs.declared.building.subscripts.Numbering.{Numbering}
-use Rattle.av_reader.specs.Accesses.{numbering}
 use Rattle.av_reader.specs.Meanings.{IsFaithful}
 use Rattle.av_reader.proofs.Faithful.{faithful}
 use Rattle.av_reader.proofs.building.subscripts.place_map.Goals as goal
