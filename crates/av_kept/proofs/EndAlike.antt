@@ -9,7 +9,6 @@ use Rattle.av_ir.specs.declared.module.Module.{Module}
 use Rattle.av_ir.specs.Run.{Run}
 use Rattle.av_ir.specs.Marks.{in_turn, marked_func, marked_of}
 use Rattle.av_ir.specs.ScalarRun.{run_scalar_of}
-use Rattle.av_ir.specs.FlatRun.{run_flat_of}
 use Rattle.av_ir.proofs.MarkedLevels.{funcs_alike}
 use Rattle.av_flat.specs.Laws.{HasNoVector}
 use Rattle.av_flat.proofs.Agreement.{flat_is_scalar}
@@ -38,9 +37,10 @@ func_ends_alike scale f loops none = record {
 funcs_end_alike : (scale : ℕ) (fs : List Func) (loops : ℕ) → All HasNoVector fs → AllZip (EndsAlikeAt scale) fs (in_turn (map marked_func fs) loops).made
 unfolding in_turn
 funcs_end_alike scale [] loops none = tt
-funcs_end_alike scale (f ∷ fs) loops none =
-    (func_ends_alike scale f loops (All-head HasNoVector f fs none),
-    funcs_end_alike scale fs (marked_func f loops).loops (All-tail HasNoVector f fs none))
+funcs_end_alike scale (f ∷ fs) loops none = (
+  func_ends_alike scale f loops (All-head HasNoVector f fs none),
+  funcs_end_alike scale fs (marked_func f loops).loops (All-tail HasNoVector f fs none),
+)
 
 pub kept_loops : (tree : Tree) (mode : Mode) (m : Module) → elaborated tree mode ≡ gives m → EndsAlike m (marked_of m)
 kept_loops tree mode m is = λ scale least most. funcs_end_alike scale m.funcs 0 (no_vectors tree mode m is)

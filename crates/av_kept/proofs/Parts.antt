@@ -4,8 +4,8 @@ use Rattle.std.specs.List.{All}
 use Rattle.av_ir.specs.declared.module.ValueId.{ValueId}
 use Rattle.av_ir.specs.declared.module.Marks.{Marks}
 use Rattle.av_ir.specs.declared.module.OpKind.{OpKind}
-use Rattle.av_ir.specs.declared.module.Op.{Op, Op-F, roll-Op, out-Op, out-roll-Op}
-use Rattle.av_ir.specs.declared.module.Region.{Region, Region-F, roll-Region, out-Region, out-roll-Region}
+use Rattle.av_ir.specs.declared.module.Op.{Op, Op-F, roll-Op, out-roll-Op}
+use Rattle.av_ir.specs.declared.module.Region.{Region, Region-F, roll-Region, out-roll-Region}
 use Rattle.av_ir.specs.declared.module.OpKind.TheVariants.{FuncReturn, ArithConstant, ArithBinary, AffineFor, AffineYield, AffineLoad, AffineStore}
 use Rattle.av_scalar.specs.Runnable.{HasUsableMaps, AreValues, IsRunnable, IsRunnableRegion}
 use Rattle.av_scalar.proofs.Opened.{runs_if, region_runs_if}
