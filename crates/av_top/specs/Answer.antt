@@ -11,6 +11,7 @@ use Rattle.av_printer.specs.Spelling.{spelling}
 use Rattle.av_totree.specs.Trees.{tree_of}
 use Rattle.av_ir.specs.declared.module.Module.{Module}
 use Rattle.av_ir.specs.Marks.{marked_of}
+use Rattle.av_kept.specs.Headline.{EndsAlike}
 
 -- The tree has the forms that are taken, no rule fails in it for so many lanes, and it is this module.
 pub record IsModuleOf (size : ℕ) (tree : Tree) (m : Module) : Type 0 where
@@ -21,7 +22,8 @@ pub record IsModuleOf (size : ℕ) (tree : Tree) (m : Module) : Type 0 where
 abbrev pub printed : Module → List ℕ
 printed m = spelling Named (tree_of (marked_of m))
 
--- The bytes have tokens, and what is written is the module of a tree, with its marks.
+-- The bytes have tokens, and what is written is the module of a tree, with its marks: with good arguments it ends at each
+-- scale as the module of the tree does.
 pub record Answers (size : ℕ) (bytes text : List ℕ) : Type 0 where
   pub tokens : List Token
   pub lexed : Tokens bytes tokens
@@ -29,3 +31,4 @@ pub record Answers (size : ℕ) (bytes text : List ℕ) : Type 0 where
   pub result : Module
   pub is : IsModuleOf size tree result
   pub written : text ≡ printed result
+  pub meaning : EndsAlike result (marked_of result)
