@@ -22,11 +22,10 @@ use Rattle.av_derive.proofs.Steps.{signs-bound}
 use Rattle.av_reader.specs.declared.building.value.Value.{Value}
 use Rattle.av_reader.specs.declared.building.value.Value.TheVariants as value
 use Rattle.av_reader.specs.Building.{by_event, by_row, only_tree, place_of, values_of}
-use Rattle.av_reader.specs.Reading.{the_limits}
 use Rattle.av_again.specs.Making.{Word, words_of, class_of_word, is_calculation, FewSigns, Makes}
 use Rattle.av_again.specs.Making as making
 use Rattle.av_again.specs.Places.{unplaced}
-use Rattle.av_again.specs.Laws.{IsReadAs, ReadingLaw}
+use Rattle.av_again.specs.Laws.{ReadingLaw}
 use Rattle.av_again.proofs.Fair.{is_deep, all_inner, all_outer, one_if, asked}
 use Rattle.av_again.proofs.Signs.{signs_in, both, not-true, counted-asked, row-outer, inner, signs-join}
 use Rattle.av_again.proofs.Values.{unplaced_value}

@@ -1,11 +1,11 @@
 -- The tree of `module {}`, row by row.
-use Rattle.std.proofs.Common.{◌≡◌, ℕ, List, [], ◌∷◌, ◌++◌, true, Bool, refl, ap, ◌∙◌, lit≤}
+use Rattle.std.proofs.Common.{◌≡◌, ℕ, List, [], ◌∷◌, true, Bool, refl, ap, ◌∙◌, lit≤}
 use Rattle.std.specs.Prelude.{codes, if◌then◌else◌, Some}
 use Rattle.std.specs.Str.{bytes_eq}
 use Rattle.av_lex.specs.declared.token.Kind.TheVariants as kind
 use Rattle.av_lex.specs.declared.token.Sign.TheVariants as sign
 use Rattle.av_tree.specs.declared.node.Node.{Node, Node-F, out-Node, out-roll-Node}
-use Rattle.av_tree.specs.declared.node.Body.{Body, roll-Body}
+use Rattle.av_tree.specs.declared.node.Body.{Body}
 use Rattle.av_tree.specs.declared.table.Symbol.TheVariants as symbol
 use Rattle.av_tree.specs.declared.table.Name.TheVariants as name
 use Rattle.av_tree.specs.declared.table.Rule.TheVariants as rule
@@ -15,7 +15,6 @@ use Rattle.av_tree.specs.declared.table.functions.FunctionName.TheVariants as fu
 use Rattle.av_tree.specs.declared.table.functions.FunctionRule.TheVariants as functions
 use Rattle.av_tree.specs.declared.table.regions.RegionName.TheVariants as regions_name
 use Rattle.av_tree.specs.declared.table.regions.RegionRule.TheVariants as regions
-use Rattle.av_tree.specs.declared.table.attributes.AttributeName.TheVariants as attributes_name
 use Rattle.av_tree.specs.declared.table.attributes.AttributeRule.TheVariants as attributes
 use Rattle.av_derive.specs.ClassOf.{keywords}
 use Rattle.av_reader.specs.declared.building.value.Value.TheVariants as value
@@ -24,7 +23,7 @@ use Rattle.av_reader.specs.Operations.{is_module, module_of, root_of}
 use Rattle.av_reader.specs.Building as building
 use Rattle.av_reader.specs.Sorts.{on_top, replaced}
 use Rattle.av_again.specs.Making.{Makes, nothing, by_sign, by_word, by_row}
-use Rattle.av_again.specs.Laws.{ExampleLaw, IsMade, example_words, example_tree}
+use Rattle.av_again.specs.Laws.{ExampleLaw, example_words, example_tree}
 
 abbrev module_here : Node
 module_here = module_of [] [] [] 0

@@ -1,10 +1,7 @@
 -- Which names stand within an expression, and that signs and words of calculation are counted only there.
-use Rattle.std.proofs.Common.{◌≡◌, ℕ, ◌+◌, ◌≤◌, Bool, true, false, cond, not, ◌&&◌, ◌||◌, IsTrue, List, [], ◌∷◌, ◌++◌, refl, sym, ap, ◌∙◌, arith}
+use Rattle.std.proofs.Common.{ℕ, ◌+◌, Bool, true, false, not, ◌&&◌, ◌||◌, IsTrue, List, [], ◌∷◌, refl}
 use Rattle.std.specs.Prelude.{nat_le, if◌then◌else◌}
-use Rattle.av_lex.specs.declared.token.Sign.TheVariants as sign
-use Rattle.av_tree.specs.declared.class.Class.{Class}
 use Rattle.av_tree.specs.declared.class.Class.TheVariants as class
-use Rattle.av_tree.specs.declared.class.Keyword.TheVariants as key
 use Rattle.av_tree.specs.declared.table.Test.{Test}
 use Rattle.av_tree.specs.declared.table.Test.TheVariants as test
 use Rattle.av_tree.specs.declared.table.Symbol.{Symbol}

@@ -5,8 +5,8 @@ use Rattle.std.proofs.lemmas.Option.{slice_get-map}
 use Rattle.std.specs.Prelude.{ℤ, codes, true, false, Bool, if◌then◌else◌, Option, Some, None, option_map, slice_get}
 use Rattle.std.specs.Option.{option_map_or}
 use Rattle.std.specs.Str.{bytes_eq}
-use Rattle.av_tree.specs.declared.node.Node.{Node, Node-F, fold-Node, fold-roll-Node, fold_out-Node, out-Node, roll-Node, out-roll-Node}
-use Rattle.av_tree.specs.declared.node.Body.{Body, Body-F, fold-Body, fold-roll-Body, roll-Body}
+use Rattle.av_tree.specs.declared.node.Node.{Node, Node-F, fold-roll-Node, fold_out-Node, out-Node, roll-Node, out-roll-Node}
+use Rattle.av_tree.specs.declared.node.Body.{Body, fold-roll-Body, roll-Body}
 use Rattle.av_tree.specs.declared.node.BodyArg.{BodyArg}
 use Rattle.av_tree.specs.declared.attribute.Attr.{Attr}
 use Rattle.av_tree.specs.declared.attribute.Attr.TheVariants as attr

@@ -1,9 +1,8 @@
 -- What rows make doesn't depend on places, nor on what lies under the values.
-use Rattle.std.proofs.Common.{◌≡◌, ℕ, List, [], ◌∷◌, ◌++◌, map, reverse, refl, sym, ap, ◌∙◌}
+use Rattle.std.proofs.Common.{◌≡◌, ℕ, List, [], ◌∷◌, ◌++◌, map, reverse, refl, ap, ◌∙◌}
 use Rattle.std.proofs.lemmas.List.{map-append}
-use Rattle.std.specs.Prelude.{Option, Some, None, option_map}
+use Rattle.std.specs.Prelude.{Some, option_map}
 use Rattle.av_tree.specs.declared.node.Node.{Node}
-use Rattle.av_tree.specs.declared.node.Tree.{Tree}
 use Rattle.av_tree.specs.declared.table.Rule.{Rule}
 use Rattle.av_tree.specs.declared.table.Rule.TheVariants as rule
 use Rattle.av_tree.specs.declared.table.file.FileRule.{FileRule}
@@ -47,14 +46,12 @@ use Rattle.av_reader.specs.rows.ArithRows as making_ariths
 use Rattle.av_reader.specs.rows.AffineRows as making_affines
 use Rattle.av_reader.specs.rows.SubscriptRows as making_subscripts
 use Rattle.av_reader.specs.declared.building.value.Value.{Value}
-use Rattle.av_reader.specs.declared.building.value.Onward.{Onward}
-use Rattle.av_reader.specs.declared.building.value.Terminated.{Terminated}
-use Rattle.av_reader.specs.Operations.{named, root_of, no_values}
-use Rattle.av_reader.specs.Sorts.{Of, All, replaced, sort_of, sorts_of}
+use Rattle.av_reader.specs.Operations.{named, no_values}
+use Rattle.av_reader.specs.Sorts.{All, sort_of, sorts_of}
 use Rattle.av_reader.specs.Building.{by_row}
-use Rattle.av_again.specs.Places.{unplaced_node, unplaced}
+use Rattle.av_again.specs.Places.{unplaced_node}
 use Rattle.av_again.proofs.Nodes.{named-unplaced, root-unplaced, module-unplaced, function-unplaced, terminator-unplaced, constant-unplaced, binary-unplaced, load-unplaced, loop-unplaced, store-unplaced}
-use Rattle.av_again.proofs.Values.{unplaced_value, unplaced_of, unplaced_all, unplaced_onward, unplaced_terminated, replaced-under, replaced-unplaced}
+use Rattle.av_again.proofs.Values.{unplaced_value, unplaced_of, unplaced_all, replaced-under, replaced-unplaced}
 
 -- the operations after one, and it
 last-unplaced : (others : List Node) (node later : Node) → unplaced_node node ≡ later

@@ -1,11 +1,9 @@
 -- The count of signs and words of calculation that the events of a derivation keep.
-use Rattle.std.proofs.Common.{◌≡◌, ℕ, suc, ◌+◌, ◌≤◌, Bool, true, false, cond, not, ◌&&◌, ◌||◌, IsTrue, List, [], ◌∷◌, ◌++◌, refl, sym, ap, ◌∙◌, subst, arith}
+use Rattle.std.proofs.Common.{◌≡◌, ℕ, ◌+◌, ◌≤◌, Bool, true, false, not, ◌&&◌, ◌||◌, IsTrue, List, [], ◌∷◌, ◌++◌, refl, sym, ap, subst, arith}
 use Rattle.std.proofs.lemmas.Bool.Decides.{nat_tests}
 use Rattle.std.specs.Prelude.{nat_le, if◌then◌else◌}
-use Rattle.av_lex.specs.declared.token.Sign.{Sign}
 use Rattle.av_tree.specs.declared.class.Class.{Class}
 use Rattle.av_tree.specs.declared.class.Class.TheVariants as class
-use Rattle.av_tree.specs.declared.class.Keyword.{Keyword}
 use Rattle.av_tree.specs.declared.class.Keyword.TheVariants as key
 use Rattle.av_tree.specs.declared.table.Test.{Test}
 use Rattle.av_tree.specs.declared.table.Test.TheVariants as test
@@ -21,7 +19,7 @@ use Rattle.av_derive.specs.declared.machine.Event.TheVariants as event
 use Rattle.av_derive.specs.Derivation.{Derives, nothing_left, by_sign, by_word, by_token, by_row, signs_with, WithinSigns}
 use Rattle.av_derive.specs.State.{signs_after}
 use Rattle.av_again.specs.Making.{is_calculation}
-use Rattle.av_again.proofs.Fair.{is_deep, is_inner, all_inner, all_outer, one_if, is_calculation_test, asked, is_fair, fair}
+use Rattle.av_again.proofs.Fair.{is_deep, is_inner, all_inner, all_outer, one_if, is_calculation_test, asked, fair}
 
 -- how many signs and words of calculation are among the classes
 abbrev pub signs_in : List Class → ℕ

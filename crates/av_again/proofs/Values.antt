@@ -1,8 +1,6 @@
 -- The values on a stack without places, and how rows take them off it.
-use Rattle.std.proofs.Common.{◌≡◌, ℕ, List, [], ◌∷◌, ◌++◌, map, refl, sym, ap, ◌∙◌}
+use Rattle.std.proofs.Common.{◌≡◌, List, [], ◌∷◌, ◌++◌, map, refl, sym, ap, ◌∙◌}
 use Rattle.std.specs.Prelude.{Option, Some, None, option_map, option_and_then}
-use Rattle.av_tree.specs.declared.node.Node.{Node}
-use Rattle.av_tree.specs.declared.node.Tree.{Tree}
 use Rattle.av_reader.specs.declared.building.value.Value.{Value}
 use Rattle.av_reader.specs.declared.building.value.Value.TheVariants as value
 use Rattle.av_reader.specs.declared.building.value.Onward.{Onward}
