@@ -9,6 +9,7 @@ returns-clause-ok c = record {
     tokens = c.as_slice.result.now;
     lexed = rw c.as_slice.ensures c.in_ok-tokens.ensures.found;
     tree = c.in_ok-tree.tree;
+    is_tree = c.in_ok-tree.ensures.tree;
     result = c.in_ok-module.module;
     is = c.in_ok-module.ensures.ok;
   };
