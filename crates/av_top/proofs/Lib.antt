@@ -1,1 +1,5 @@
 pub mod Words
+pub mod Lines
+pub mod OneModule
+pub mod Decisions
+pub mod Kept
