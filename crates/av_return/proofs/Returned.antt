@@ -1,0 +1,56 @@
+-- What is written for a program reads again as its module.
+use Rattle.std.proofs.Common.{◌≡◌, ◌≤◌, ◌∙◌, List, ℕ, true, ap, sym, subst}
+use Rattle.av_shapes.specs.declared.Shape.{Shape}
+use Rattle.av_shapes.specs.Places.{lanes}
+use Rattle.av_ir.specs.declared.module.Module.{Module}
+use Rattle.av_ir.specs.Marks.{marked_of}
+use Rattle.av_tree.specs.declared.node.Tree.{Tree}
+use Rattle.av_totree.specs.Trees.{tree_of}
+use Rattle.av_printer.specs.declared.form.Form.TheVariants.{Named}
+use Rattle.av_printer.specs.Pieces.{spelt}
+use Rattle.av_printer.specs.Spelling.{pieces_of, spelling}
+use Rattle.av_verify.specs.declared.module.Mode.TheVariants.{Run}
+use Rattle.av_verify.specs.Elaboration.{elaborated}
+use Rattle.av_written.specs.Spacing.{tokens_of, words_of}
+use Rattle.av_written.proofs.Lexing.{tokens-law}
+use Rattle.av_written.proofs.TextsOf.{spellings-law}
+use Rattle.av_written.proofs.NodeParts.{trees-law}
+use Rattle.av_again.specs.Laws.{IsMade}
+use Rattle.av_again.proofs.Again.{reading-law}
+use Rattle.av_places.proofs.Wholes.{places_law}
+use Rattle.av_plain.specs.Programs.{Program}
+use Rattle.av_plain.specs.Modules.{module_of}
+use Rattle.av_plain.specs.WrittenTrees.{written_tree}
+use Rattle.av_plain.specs.ReadTrees.{read_tree}
+use Rattle.av_plain.specs.Sound.{IsSound}
+use Rattle.av_plain.proofs.TakenWholes.{taken_law}
+use Rattle.av_plain.proofs.MadeModules.{tree_made}
+use Rattle.av_plain.proofs.AgainWholes.{read_again}
+use Rattle.av_sound.proofs.PrintedWalks.{printed}
+use Rattle.av_sound.proofs.BalanceOfTrees.{brackets}
+use Rattle.av_reread.proofs.Words.{words_are_read}
+use Rattle.av_return.specs.Returns.{ReadsAgain}
+use Rattle.av_return.specs.Laws.{ReturnLaw}
+
+pub returned : (p : Program) → IsSound p → ReadsAgain (spelling Named (written_tree p)) (module_of p)
+unfolding spelling
+returned p sound =
+    let pieces = pieces_of Named (written_tree p).root in
+    let spaced = trees-law Named (written_tree p).root (printed p sound) in
+    let made : IsMade (words_of pieces) (read_tree p) = record { makes = words_are_read 192 p (omega arith) sound; brackets = brackets p } in
+    let read = reading-law (spelt pieces) (tokens_of pieces 0) (words_of pieces) (read_tree p) (spellings-law pieces) made in
+    record {
+      tokens = tokens_of pieces 0;
+      lexed = tokens-law pieces spaced;
+      tree = read.read;
+      is_tree = read.is;
+      elaborates = sym (places_law read.read Run) ∙ ap (λ (t : Tree). elaborated t Run) read.same ∙ read_again p sound;
+    }
+
+pub return_law : ReturnLaw
+return_law tree shape m wide forms given =
+    let taken = taken_law tree shape m wide forms given in
+    let Reads : Tree → Type 0 = λ t. ReadsAgain (spelling Named t) (module_of taken.program) in
+    let Returns : Module → Type 0 = λ n. ReadsAgain (spelling Named (tree_of n)) n in
+    let written : Reads (tree_of (module_of taken.program)) = subst Reads (sym (tree_made taken.program taken.sound)) (returned taken.program taken.sound) in
+    subst Returns (sym taken.same) written
