@@ -1,0 +1,4 @@
+pub mod PrintedNames
+pub mod PrintedParts
+pub mod PrintedNodes
+pub mod PrintedWalks
