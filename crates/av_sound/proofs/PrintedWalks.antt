@@ -242,7 +242,7 @@ steps_read (step ∷ steps) place visible good few sound =
     (steps_read steps (after_step step place) (visible_behind step place visible) (good-step step place good) few sound.1)
 
 -- ---- the function and the module
-property-first : (first name : List ℕ) (value : Attr) (rest : List Named)
+pub property-first : (first name : List ℕ) (value : Attr) (rest : List Named)
     → property (entry first value ∷ rest) name ≡ cond (same first name) (Some value) (property rest name)
 unfolding property
 property-first first name value rest =
