@@ -11,3 +11,11 @@ pub mod TakenWalks
 pub mod TakenBlocks
 pub mod TakenLoops
 pub mod TakenWholes
+pub mod AgainNames
+pub mod AgainScopes
+pub mod AgainSubscripts
+pub mod AgainRules
+pub mod AgainLines
+pub mod AgainPlaces
+pub mod AgainLoops
+pub mod AgainWholes

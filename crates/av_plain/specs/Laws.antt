@@ -1,5 +1,5 @@
 -- What holds of programs.
-use Rattle.std.specs.Prelude.{◌≡◌, ◌≤◌, true}
+use Rattle.std.specs.Prelude.{◌^◌, ◌<◌, ◌≤◌, ◌≡◌, true, length}
 use Rattle.av_ir.specs.declared.module.Module.{Module}
 use Rattle.av_ir.specs.Marks.{marked_of}
 use Rattle.av_shapes.specs.declared.Shape.{Shape}
@@ -19,9 +19,9 @@ use Rattle.av_plain.specs.Sound.{IsSound}
 abbrev pub WrittenLaw : Type 0
 WrittenLaw = (p : Program) → IsSound p → tree_of (module_of p) ≡ written_tree p
 
--- the tree as which a sound program is read again is its module
+-- the tree as which a sound program is read again is its module; names of buffers differ where these are fewer than 2 ^ 64
 abbrev pub ReadLaw : Type 0
-ReadLaw = (p : Program) → IsSound p → elaborated (read_tree p) Run ≡ gives (module_of p)
+ReadLaw = (p : Program) → IsSound p → length p.sizes < 2 ^ 64 → elaborated (read_tree p) Run ≡ gives (module_of p)
 
 -- a module is that of a sound program, but for its marks
 pub record IsProgram (m : Module) : Type 0 where

@@ -17,7 +17,7 @@ use Rattle.av_written.proofs.TextsOf.{spellings-law}
 use Rattle.av_written.proofs.NodeParts.{trees-law}
 use Rattle.av_again.specs.Laws.{IsMade}
 use Rattle.av_again.proofs.Again.{reading-law}
-use Rattle.av_places.proofs.Wholes.{places_law}
+use Rattle.av_places.proofs.Walks.{places}
 use Rattle.av_plain.specs.Programs.{Program}
 use Rattle.av_plain.specs.Modules.{module_of}
 use Rattle.av_plain.specs.WrittenTrees.{written_tree}
@@ -44,7 +44,7 @@ returned p sound =
       lexed = tokens-law pieces spaced;
       tree = read.read;
       is_tree = read.is;
-      elaborates = sym (places_law read.read Run) ∙ ap (λ (t : Tree). elaborated t Run) read.same ∙ read_again p sound;
+      elaborates = sym (places read.read Run) ∙ ap (λ (t : Tree). elaborated t Run) read.same ∙ read_again p sound;
     }
 
 pub return_law : ReturnLaw

@@ -1,0 +1,5 @@
+use Rattle.av_sound.proofs.laws.printed_law.Goals as goal
+use Rattle.av_sound.proofs.PrintedWalks.{printed}
+
+pub returns : goal.returns
+returns c = printed
