@@ -1,5 +1,6 @@
 -- What is written for a program reads again as its module.
-use Rattle.std.proofs.Common.{◌≡◌, ◌≤◌, ◌∙◌, List, ℕ, true, ap, sym, subst}
+use Rattle.std.proofs.Common.{◌≡◌, ◌<◌, ◌≤◌, ◌^◌, ◌∙◌, List, ℕ, length, true, ap, sym, subst}
+use Rattle.std.specs.List.{All}
 use Rattle.av_shapes.specs.declared.Shape.{Shape}
 use Rattle.av_shapes.specs.Places.{lanes}
 use Rattle.av_ir.specs.declared.module.Module.{Module}
@@ -19,22 +20,24 @@ use Rattle.av_again.specs.Laws.{IsMade}
 use Rattle.av_again.proofs.Again.{reading-law}
 use Rattle.av_places.proofs.Walks.{places}
 use Rattle.av_plain.specs.Programs.{Program}
+use Rattle.av_plain.specs.Walks.{last_place}
 use Rattle.av_plain.specs.Modules.{module_of}
 use Rattle.av_plain.specs.WrittenTrees.{written_tree}
 use Rattle.av_plain.specs.ReadTrees.{read_tree}
 use Rattle.av_plain.specs.Sound.{IsSound}
 use Rattle.av_plain.proofs.TakenWholes.{taken_law}
 use Rattle.av_plain.proofs.MadeModules.{tree_made}
+use Rattle.av_plain.proofs.AgainPlaces.{sizes_within}
 use Rattle.av_plain.proofs.AgainWholes.{read_again}
 use Rattle.av_sound.proofs.PrintedWalks.{printed}
 use Rattle.av_sound.proofs.BalanceOfTrees.{brackets}
 use Rattle.av_reread.proofs.Words.{words_are_read}
 use Rattle.av_return.specs.Returns.{ReadsAgain}
-use Rattle.av_return.specs.Laws.{ReturnLaw}
+use Rattle.av_return.specs.Laws.{HasFewValues, ReturnLaw}
 
-pub returned : (p : Program) → IsSound p → ReadsAgain (spelling Named (written_tree p)) (module_of p)
+pub returned : (p : Program) → IsSound p → length p.sizes < 2 ^ 64 → ReadsAgain (spelling Named (written_tree p)) (module_of p)
 unfolding spelling
-returned p sound =
+returned p sound few =
     let pieces = pieces_of Named (written_tree p).root in
     let spaced = trees-law Named (written_tree p).root (printed p sound) in
     let made : IsMade (words_of pieces) (read_tree p) = record { makes = words_are_read 192 p (omega arith) sound; brackets = brackets p } in
@@ -44,13 +47,18 @@ returned p sound =
       lexed = tokens-law pieces spaced;
       tree = read.read;
       is_tree = read.is;
-      elaborates = sym (places read.read Run) ∙ ap (λ (t : Tree). elaborated t Run) read.same ∙ read_again p sound;
+      elaborates = sym (places read.read Run) ∙ ap (λ (t : Tree). elaborated t Run) read.same ∙ read_again p sound few;
     }
 
 pub return_law : ReturnLaw
-return_law tree shape m wide forms given =
+return_law tree shape m wide forms given numbered =
     let taken = taken_law tree shape m wide forms given in
     let Reads : Tree → Type 0 = λ t. ReadsAgain (spelling Named t) (module_of taken.program) in
     let Returns : Module → Type 0 = λ n. ReadsAgain (spelling Named (tree_of n)) n in
-    let written : Reads (tree_of (module_of taken.program)) = subst Reads (sym (tree_made taken.program taken.sound)) (returned taken.program taken.sound) in
+    let Few : Module → Type 0 = λ n. All HasFewValues n.funcs in
+    let values : Few (module_of taken.program) = subst Few taken.same numbered in
+    let within : length taken.program.sizes ≤ length (last_place taken.program).types = sizes_within taken.program in
+    let first : length (last_place taken.program).types < 2 ^ 64 = values.0 in
+    let few : length taken.program.sizes < 2 ^ 64 = omega arith in
+    let written : Reads (tree_of (module_of taken.program)) = subst Reads (sym (tree_made taken.program taken.sound)) (returned taken.program taken.sound few) in
     subst Returns (sym taken.same) written

@@ -1,8 +1,10 @@
 //! The texts that answer a request.
 
 ghost use Rattle.std.specs.Prelude.{◌≡◌, ◌≤◌, ℕ, List, length, IfOk, IsErrOf};
+ghost use Rattle.std.specs.List.{All};
 ghost use Rattle.av_ir.specs.declared.module.Module.{Module as OneModule};
 ghost use Rattle.av_ir.specs.Marks.{marked_of};
+ghost use Rattle.av_return.specs.Laws.{HasFewValues};
 ghost use Rattle.av_top.specs.Answer.{Answers, printed};
 ghost use Rattle.av_top.specs.FirstPathText.{IsFirstPathText, IsModuleOf};
 ghost use Rattle.av_top.specs.Report.{reported};
@@ -10,7 +12,7 @@ ghost use Rattle.av_top.specs.Report.{reported};
 use crate::report::report_of;
 use crate::request::Request;
 use av_affine::Text;
-use av_ir::{Module, inner_loops, marked};
+use av_ir::{Func, Module, inner_loops, marked};
 use av_lex::{LexFault, lex};
 use av_printer::{Form, spell};
 use av_reader::{ReadRefusal, read};
@@ -110,13 +112,27 @@ pub fn answer(alloc: Global, request: Request, bytes: &[u8]) -> Result<Texts, Re
 fn texts_of(alloc: Global, module: &Module) -> Result<Texts, AllocError>
     ensures text { IfOk result (λ texts. texts.text ≡ printed «module».now) }
     ensures report { IfOk result (λ texts. texts.report ≡ reported (marked_of «module».now)) }
+    ensures few { IfOk result (λ _. All HasFewValues (marked_of «module».now).funcs) }
 {
     let marked = marked(alloc, module)?;
+    let _count = most_values(marked.funcs.as_slice());
     let tree = to_tree(alloc, &marked)?;
     let text = spell(alloc, &tree, Form::Named)?;
     let loops = inner_loops(alloc, &marked)?;
     let report = report_of(alloc, marked.funcs.as_slice(), loops.as_slice())?;
     Ok(Texts { text, report })
+}
+
+// The greatest number of values of a function. A list in memory has fewer than 2^64, which is what tells
+// the printed names of values apart.
+fn most_values(funcs: &[Func]) -> usize
+    ensures { All (λ f. length f.values ≤ result) funcs.now }
+{
+    let mut most = 0;
+    for func in funcs {
+        most = most.max(func.values.len());
+    }
+    most
 }
 
 // The module of a tree, if it has the forms that are taken.

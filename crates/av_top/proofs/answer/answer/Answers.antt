@@ -18,7 +18,7 @@ returns-clause-ok c = record {
   };
   written = c.in_ok-texts.ensures.text;
   reports = c.in_ok-texts.ensures.report;
-  again = reads_again c.args.request.size c.in_ok-tree.tree c.in_ok-module.module _ c.requires.0 c.in_ok-module.ensures.ok c.in_ok-texts.ensures.text;
+  again = reads_again c.args.request.size c.in_ok-tree.tree c.in_ok-module.module _ c.requires.0 c.in_ok-module.ensures.ok c.in_ok-texts.ensures.few c.in_ok-texts.ensures.text;
   meaning = means_the_same c.args.request.size c.in_ok-tree.tree c.in_ok-module.module c.in_ok-module.ensures.ok;
 }
 
