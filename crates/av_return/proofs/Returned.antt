@@ -31,7 +31,9 @@ use Rattle.av_plain.proofs.AgainPlaces.{sizes_within}
 use Rattle.av_plain.proofs.AgainWholes.{read_again}
 use Rattle.av_sound.proofs.PrintedWalks.{printed}
 use Rattle.av_sound.proofs.BalanceOfTrees.{brackets}
-use Rattle.av_reread.proofs.Words.{words_are_read}
+use Rattle.av_reread.proofs.Following.{respelled}
+use Rattle.av_reread.proofs.Modules.{program_made}
+use Rattle.av_reread.proofs.SaidModules.{words_are}
 use Rattle.av_return.specs.Returns.{ReadsAgain}
 use Rattle.av_return.specs.Laws.{HasFewValues, ReturnLaw}
 
@@ -40,7 +42,7 @@ unfolding spelling
 returned p sound few =
     let pieces = pieces_of Named (written_tree p).root in
     let spaced = trees-law Named (written_tree p).root (printed p sound) in
-    let made : IsMade (words_of pieces) (read_tree p) = record { makes = words_are_read 192 p (omega arith) sound; brackets = brackets p } in
+    let made : IsMade (words_of pieces) (read_tree p) = record { makes = respelled (sym (words_are p)) (program_made (omega arith) p sound); brackets = brackets p } in
     let read = reading-law (spelt pieces) (tokens_of pieces 0) (words_of pieces) (read_tree p) (spellings-law pieces) made in
     record {
       tokens = tokens_of pieces 0;

@@ -3,3 +3,4 @@ pub mod Lines
 pub mod OneModule
 pub mod Decisions
 pub mod Kept
+pub mod Values

@@ -9,3 +9,4 @@ pub mod Answer
 pub mod Answered
 pub mod Refusals
 pub mod Decided
+pub mod Values

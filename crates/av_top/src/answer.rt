@@ -4,10 +4,11 @@ ghost use Rattle.std.specs.Prelude.{◌≡◌, ◌≤◌, ℕ, List, length, IfO
 ghost use Rattle.std.specs.List.{All};
 ghost use Rattle.av_ir.specs.declared.module.Module.{Module as OneModule};
 ghost use Rattle.av_ir.specs.Marks.{marked_of};
-ghost use Rattle.av_return.specs.Laws.{HasFewValues};
 ghost use Rattle.av_top.specs.Answer.{Answers, printed};
 ghost use Rattle.av_top.specs.FirstPathText.{IsFirstPathText, IsModuleOf};
 ghost use Rattle.av_top.specs.Report.{reported};
+ghost use Rattle.av_top.specs.Values.{most_of};
+ghost use Rattle.av_return.specs.Laws.{HasFewValues};
 
 use crate::report::report_of;
 use crate::request::Request;
@@ -115,7 +116,7 @@ fn texts_of(alloc: Global, module: &Module) -> Result<Texts, AllocError>
     ensures few { IfOk result (λ _. All HasFewValues (marked_of «module».now).funcs) }
 {
     let marked = marked(alloc, module)?;
-    let _count = most_values(marked.funcs.as_slice());
+    let _most = most_values(marked.funcs.as_slice());
     let tree = to_tree(alloc, &marked)?;
     let text = spell(alloc, &tree, Form::Named)?;
     let loops = inner_loops(alloc, &marked)?;
@@ -126,11 +127,14 @@ fn texts_of(alloc: Global, module: &Module) -> Result<Texts, AllocError>
 // The greatest number of values of a function. A list in memory has fewer than 2^64, which is what tells
 // the printed names of values apart.
 fn most_values(funcs: &[Func]) -> usize
-    ensures { All (λ f. length f.values ≤ result) funcs.now }
+    ensures { result ≡ most_of funcs.now }
 {
     let mut most = 0;
     for func in funcs {
-        most = most.max(func.values.len());
+        let count = func.values.len();
+        if most < count {
+            most = count;
+        }
     }
     most
 }

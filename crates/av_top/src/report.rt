@@ -34,12 +34,7 @@ fn name_of(funcs: &[Func], place: No) -> &[u8]
 }
 
 // Puts the line of a loop at the end.
-fn push_line(
-    alloc: Global,
-    report: &mut Vec<u8>,
-    name: &[u8],
-    number: No,
-) -> Result<(), AllocError>
+fn push_line(alloc: Global, report: &mut Vec<u8>, name: &[u8], number: No) -> Result<(), AllocError>
     ensures { OnOk result (report.new.items ≡ report.old.items ++ line_of name.now number) }
 {
     let number = number.to_string(alloc)?;

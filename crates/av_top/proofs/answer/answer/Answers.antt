@@ -1,5 +1,5 @@
 use Rattle.std.proofs.Common.{ap, Err}
-use Rattle.av_top.proofs.OneModule.{handed_on, no_text}
+use Rattle.av_top.proofs.OneModule.{handed_on, no_text, no_tree, not_memory, one_answer}
 use Rattle.av_top.proofs.Kept.{means_the_same, reads_again}
 use Rattle.av_top.specs.Answer.{Answers}
 use Rattle.av_top.specs.FirstPathText.{IsFirstPathText}
@@ -21,6 +21,16 @@ returns-clause-ok c = record {
   again = reads_again c.args.request.size c.in_ok-tree.tree c.in_ok-module.module _ c.requires.0 c.in_ok-module.ensures.ok c.in_ok-texts.ensures.few c.in_ok-texts.ensures.text;
   meaning = means_the_same c.args.request.size c.in_ok-tree.tree c.in_ok-module.module c.in_ok-module.ensures.ok;
 }
+
+pub returns-clause-only : goal.returns-clause-only
+returns-clause-only c =
+    one_answer c.args.request.size c.args.bytes.now c.in_ok-tokens.tokens c.as_slice.result.now c.in_ok-tree.tree c.in_ok-module.module _ _ c.as_slice.ensures c.in_ok-tokens.ensures.only_tokens c.in_ok-tree.ensures.only
+    c.in_ok-module.ensures.ok c.in_ok-texts.ensures.text c.in_ok-texts.ensures.report
+
+pub returns-in_err-tree-clause-not_built : goal.returns-in_err-tree-clause-not_built
+returns-in_err-tree-clause-not_built c = λ same.
+    no_tree c.args.request.size c.args.bytes.now c.in_ok-tokens.tokens c.as_slice.result.now c.as_slice.ensures c.in_ok-tokens.ensures.only_tokens
+    (c.in_err-tree.ensures.none (not_memory _ (handed_on _ _ _ c.from_residual-in_err-tree.ensures.1 same)))
 
 pub returns-in_err-module-clause-not_built : goal.returns-in_err-module-clause-not_built
 returns-in_err-module-clause-not_built c = λ same.

@@ -1,0 +1,17 @@
+pub mod Decimals
+pub mod Parts
+pub mod Following
+pub mod Subscripts
+pub mod Nodes
+pub mod ProgramWords
+pub mod Forms
+pub mod Bounds
+pub mod Operations
+pub mod Lines
+pub mod Steps
+pub mod Modules
+pub mod PlainNames
+pub mod Saying
+pub mod SaidParts
+pub mod SaidLines
+pub mod SaidModules
