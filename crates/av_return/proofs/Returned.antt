@@ -1,10 +1,7 @@
 -- What is written for a program reads again as its module.
-use Rattle.std.proofs.Common.{◌≡◌, ◌<◌, ◌≤◌, ◌^◌, ◌∙◌, List, ℕ, length, true, ap, sym, subst}
+use Rattle.std.proofs.Common.{◌<◌, ◌≤◌, ◌^◌, ◌∙◌, length, ap, sym, subst, arith}
 use Rattle.std.specs.List.{All}
-use Rattle.av_shapes.specs.declared.Shape.{Shape}
-use Rattle.av_shapes.specs.Places.{lanes}
 use Rattle.av_ir.specs.declared.module.Module.{Module}
-use Rattle.av_ir.specs.Marks.{marked_of}
 use Rattle.av_tree.specs.declared.node.Tree.{Tree}
 use Rattle.av_totree.specs.Trees.{tree_of}
 use Rattle.av_printer.specs.declared.form.Form.TheVariants.{Named}
@@ -21,7 +18,7 @@ use Rattle.av_again.proofs.Again.{reading-law}
 use Rattle.av_places.proofs.Walks.{places}
 use Rattle.av_plain.specs.Programs.{Program}
 use Rattle.av_plain.specs.Walks.{last_place}
-use Rattle.av_plain.specs.Modules.{module_of}
+use Rattle.av_plain.specs.Modules.{func_of, module_of}
 use Rattle.av_plain.specs.WrittenTrees.{written_tree}
 use Rattle.av_plain.specs.ReadTrees.{read_tree}
 use Rattle.av_plain.specs.Sound.{IsSound}
@@ -60,7 +57,7 @@ return_law tree shape m wide forms given numbered =
     let Few : Module → Type 0 = λ n. All HasFewValues n.funcs in
     let values : Few (module_of taken.program) = subst Few taken.same numbered in
     let within : length taken.program.sizes ≤ length (last_place taken.program).types = sizes_within taken.program in
-    let first : length (last_place taken.program).types < 2 ^ 64 = values.0 in
+    let first : length (last_place taken.program).types < 2 ^ 64 = values 0 (func_of taken.program) (omega arith) in
     let few : length taken.program.sizes < 2 ^ 64 = omega arith in
     let written : Reads (tree_of (module_of taken.program)) = subst Reads (sym (tree_made taken.program taken.sound)) (returned taken.program taken.sound few) in
     subst Returns (sym taken.same) written

@@ -1,5 +1,5 @@
 -- What is written reads again as the marked module, which means what the module of the input means.
-use Rattle.std.proofs.Common.{◌≡◌, ◌≤◌, ◌*◌, ℕ, List, sym, subst}
+use Rattle.std.proofs.Common.{◌≡◌, ◌≤◌, ◌*◌, ℕ, List, [], ◌∷◌, false, sym, subst, arith}
 use Rattle.std.specs.List.{All}
 use Rattle.av_kept.proofs.EndAlike.{kept_loops}
 use Rattle.av_kept.specs.Headline.{EndsAlike}
