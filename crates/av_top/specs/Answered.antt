@@ -1,20 +1,19 @@
--- What a command that is done says of its input, its output and its notes together.
-use Rattle.std.specs.Prelude.{◌≡◌, ℕ, ◌≤◌, List, length, Option}
+-- What a command that worked its answer out says of its input, its output and its notes together.
+use Rattle.std.specs.Prelude.{◌≡◌, ℕ, List, Option}
 use Rattle.std.specs.Io.KnownBytes.{Consumes, IsAtEnd}
 use Rattle.av_top.specs.Answer.{Answers}
-use Rattle.av_top.specs.Outcome.{Delivered}
 
--- the text that answers these bytes for so many lanes was delivered, and a report
-pub record DeliversAnswer (size : ℕ) (bytes : List ℕ) (held held' : Option (List ℕ)) (faults faults' : ℕ) (noted noted' : Option (List ℕ)) (nfaults nfaults' : ℕ) : Type 0 where
+-- the two texts that answer these bytes for so many lanes, and no others do, were delivered as is said
+pub record DeliversAnswer (size : ℕ) (bytes : List ℕ) (AreDelivered : List ℕ → List ℕ → Type 0) : Type 0 where
   pub text : List ℕ
   pub report : List ℕ
-  pub answers : Answers size bytes text
-  pub delivered : Delivered held held' faults faults' noted noted' nfaults nfaults' text report
+  pub answers : Answers size bytes text report
+  pub only : (text' report' : List ℕ) → Answers size bytes text' report' → (text' ≡ text) × (report' ≡ report)
+  pub delivered : AreDelivered text report
 
--- all that was left of the input was taken, at most a megabyte, and its answer was delivered
-pub record Answered (size : ℕ) (left left' held held' : Option (List ℕ)) (faults faults' : ℕ) (noted noted' : Option (List ℕ)) (nfaults nfaults' : ℕ) : Type 0 where
+-- all that was left of the input was taken, and its answer was delivered as is said
+pub record Answered (size : ℕ) (left left' : Option (List ℕ)) (AreDelivered : List ℕ → List ℕ → Type 0) : Type 0 where
   pub bytes : List ℕ
-  pub few : length bytes ≤ 1048576
   pub taken : Consumes left left' bytes
   pub ends : IsAtEnd left'
-  pub delivers : DeliversAnswer size bytes held held' faults faults' noted noted' nfaults nfaults'
+  pub delivers : DeliversAnswer size bytes AreDelivered

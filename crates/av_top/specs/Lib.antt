@@ -3,5 +3,9 @@ pub mod Outcome
 pub mod Number
 pub mod Intake
 pub mod Delivery
+pub mod FirstPathText
+pub mod Report
 pub mod Answer
 pub mod Answered
+pub mod Refusals
+pub mod Decided
