@@ -13,7 +13,7 @@ one_item [] low high = grind (arith, common_steps)
 one_item (x ∷ []) low high = refl
 one_item (x ∷ y ∷ zs) low high = grind (arith, common_steps)
 
-number_cases : (n : ℕ) → ((n ≤ 9) × (number n ≡ (48 + n) ∷ [])) ⊎ ((10 ≤ n) × (number n ≡ (48 + n / 10) ∷ (48 + n % 10) ∷ []))
+pub number_cases : (n : ℕ) → ((n ≤ 9) × (number n ≡ (48 + n) ∷ [])) ⊎ ((10 ≤ n) × (number n ≡ (48 + n / 10) ∷ (48 + n % 10) ∷ []))
 number_cases n = grind arith
 
 -- a text of one byte that spells a number has its digit

@@ -1,7 +1,11 @@
 //! The texts that answer a request.
 
-ghost use Rattle.std.specs.Prelude.{◌≡◌, ◌≤◌, length, IfOk};
-ghost use Rattle.av_top.specs.Answer.{Answers, IsModuleOf, printed};
+ghost use Rattle.std.specs.Prelude.{◌≡◌, ◌≤◌, ℕ, List, length, IfOk, IsErrOf};
+ghost use Rattle.av_ir.specs.declared.module.Module.{Module as OneModule};
+ghost use Rattle.av_ir.specs.Marks.{marked_of};
+ghost use Rattle.av_top.specs.Answer.{Answers, printed};
+ghost use Rattle.av_top.specs.FirstPathText.{IsFirstPathText, IsModuleOf};
+ghost use Rattle.av_top.specs.Report.{reported};
 
 use crate::report::report_of;
 use crate::request::Request;
@@ -31,12 +35,22 @@ pub enum Refusal {
 }
 
 impl From<AllocError> for Refusal {
+    ghost use Rattle.std.specs.Prelude.{◌≡◌};
+    ghost use Rattle.av_top.specs.declared.answer.Refusal.TheVariants.{NoMemory};
+
+    ghost from_gives = { λ _ refusal. refusal ≡ NoMemory };
+
     fn from(_fault: AllocError) -> Refusal {
         Refusal::NoMemory
     }
 }
 
 impl From<LexFault> for Refusal {
+    ghost use Rattle.std.specs.Prelude.{◌≡◌};
+    ghost use Rattle.av_top.specs.Refusals.{lex_refused};
+
+    ghost from_gives = { λ fault refusal. refusal ≡ lex_refused fault };
+
     fn from(fault: LexFault) -> Refusal {
         match fault {
             LexFault::NoMemory => Refusal::NoMemory,
@@ -46,6 +60,11 @@ impl From<LexFault> for Refusal {
 }
 
 impl From<ReadRefusal> for Refusal {
+    ghost use Rattle.std.specs.Prelude.{◌≡◌};
+    ghost use Rattle.av_top.specs.Refusals.{read_refused};
+
+    ghost from_gives = { λ fault refusal. refusal ≡ read_refused fault };
+
     fn from(refusal: ReadRefusal) -> Refusal {
         match refusal {
             ReadRefusal::NoMemory => Refusal::NoMemory,
@@ -55,6 +74,11 @@ impl From<ReadRefusal> for Refusal {
 }
 
 impl From<VerifyRefusal> for Refusal {
+    ghost use Rattle.std.specs.Prelude.{◌≡◌};
+    ghost use Rattle.av_top.specs.Refusals.{verify_refused};
+
+    ghost from_gives = { λ fault refusal. refusal ≡ verify_refused fault };
+
     fn from(refusal: VerifyRefusal) -> Refusal {
         match refusal {
             VerifyRefusal::NoMemory => Refusal::NoMemory,
@@ -71,7 +95,9 @@ impl From<VerifyRefusal> for Refusal {
 /// `NotBuilt` where the input is no text of the forms that are taken, `NoMemory` where memory lacks.
 pub fn answer(alloc: Global, request: Request, bytes: &[u8]) -> Result<Texts, Refusal>
     requires { (1 ≤ request.size) × (request.size ≤ 64) × (length bytes.now ≤ 1048576) }
-    ensures { IfOk result (λ texts. Answers request.size bytes.now texts.text) }
+    ensures ok { IfOk result (λ texts. Answers request.size bytes.now texts.text texts.report) }
+    ensures only { IfOk result (λ texts. (text report : List ℕ) → Answers request.size bytes.now text report → (text ≡ texts.text) × (report ≡ texts.report)) }
+    ensures not_built { IsErrOf result Refusal.NotBuilt → IsFirstPathText request.size bytes.now → ⊥ }
 {
     let tokens = lex(alloc, bytes)?;
     let tree = read(alloc, bytes, tokens.as_slice())?;
@@ -82,7 +108,8 @@ pub fn answer(alloc: Global, request: Request, bytes: &[u8]) -> Result<Texts, Re
 
 // What is written and reported for a module.
 fn texts_of(alloc: Global, module: &Module) -> Result<Texts, AllocError>
-    ensures { IfOk result (λ texts. texts.text ≡ printed «module».now) }
+    ensures text { IfOk result (λ texts. texts.text ≡ printed «module».now) }
+    ensures report { IfOk result (λ texts. texts.report ≡ reported (marked_of «module».now)) }
 {
     let marked = marked(alloc, module)?;
     let tree = to_tree(alloc, &marked)?;
@@ -95,7 +122,8 @@ fn texts_of(alloc: Global, module: &Module) -> Result<Texts, AllocError>
 // The module of a tree, if it has the forms that are taken.
 fn module_of(alloc: Global, request: Request, tree: &Tree) -> Result<Module, Refusal>
     requires { (1 ≤ request.size) × (request.size ≤ 64) }
-    ensures { IfOk result (λ m. IsModuleOf request.size tree.now m) }
+    ensures ok { IfOk result (λ m. IsModuleOf request.size tree.now m) }
+    ensures not_built { IsErrOf result Refusal.NotBuilt → (m : OneModule) → IsModuleOf request.size tree.now m → ⊥ }
 {
     if !is_first_path(tree) {
         return Err(Refusal::NotBuilt);

@@ -1,5 +1,8 @@
 //! The report: a line for each inner loop.
 
+ghost use Rattle.std.specs.Prelude.{◌≡◌, ◌++◌, IfOk, OnOk};
+ghost use Rattle.av_top.specs.Report.{line_of, lines_of, name_at};
+
 use av_affine::{No, Seq, Text};
 use av_ir::{Func, InnerLoop};
 use std::alloc::{AllocError, Global};
@@ -10,7 +13,9 @@ use std::alloc::{AllocError, Global};
 /// # Errors
 ///
 /// Memory lacks.
-pub fn report_of(alloc: Global, funcs: &[Func], loops: &[InnerLoop]) -> Result<Text, AllocError> {
+pub fn report_of(alloc: Global, funcs: &[Func], loops: &[InnerLoop]) -> Result<Text, AllocError>
+    ensures { IfOk result (λ report. report ≡ lines_of funcs.now loops.now) }
+{
     let mut report = Vec::new(alloc);
     for inner in loops {
         push_line(alloc, &mut report, name_of(funcs, inner.func), inner.number)?;
@@ -19,20 +24,19 @@ pub fn report_of(alloc: Global, funcs: &[Func], loops: &[InnerLoop]) -> Result<T
 }
 
 // The name of a function.
-fn name_of(funcs: &[Func], place: No) -> &[u8] {
+fn name_of(funcs: &[Func], place: No) -> &[u8]
+    ensures { result.now ≡ name_at funcs.now place }
+{
     match funcs.get(place as usize) {
         Some(func) => func.name.as_slice(),
         None => &[],
     }
 }
 
-// The line of a loop that is kept.
-fn push_line(
-    alloc: Global,
-    report: &mut Vec<u8>,
-    name: &[u8],
-    number: No,
-) -> Result<(), AllocError> {
+// Puts the line of a loop at the end.
+fn push_line(alloc: Global, report: &mut Vec<u8>, name: &[u8], number: No) -> Result<(), AllocError>
+    ensures { OnOk result (report.new.items ≡ report.old.items ++ line_of name.now number) }
+{
     let number = number.to_string(alloc)?;
     report.push(b'@')?;
     report.extend_from_slice(name)?;
@@ -40,5 +44,6 @@ fn push_line(
     report.extend_from_slice(number.as_bytes())?;
     report.extend_from_slice(b": kept not-built ")?;
     report.extend_from_slice(number.as_bytes())?;
-    report.extend_from_slice(b"\n")
+    report.extend_from_slice(b"\n")?;
+    Ok(())
 }
