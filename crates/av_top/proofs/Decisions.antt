@@ -1,6 +1,5 @@
 -- What a status says of the bytes of the input.
-use Rattle.std.proofs.Common.{◌≡◌, ℕ, ◌+◌, ◌/◌, ◌%◌, ◌≤◌, List, [], ◌∷◌, ◌++◌, length, length-append, refl, sym, ◌∙◌, ap, subst, arith, Option, None, Some, ◌⊎◌, inl, inr}
-use Rattle.std.proofs.lemmas.Grind.{common_steps}
+use Rattle.std.proofs.Common.{◌≡◌, ℕ, ◌+◌, ◌/◌, ◌%◌, ◌≤◌, List, [], ◌∷◌, refl, sym, ◌∙◌, subst, arith, Option, Some, ◌⊎◌, inl, inr}
 use Rattle.av_io.specs.Devices.{Rose}
 use Rattle.av_top.specs.declared.status.Status.{Status}
 use Rattle.av_top.specs.declared.status.Status.TheVariants.{Done, BadUsage, ReadFault, WriteFault, NoMemory, NotBuilt}

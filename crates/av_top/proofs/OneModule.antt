@@ -11,7 +11,6 @@ use Rattle.av_reader.specs.Reading.{IsTree}
 use Rattle.av_verify.specs.Elaboration.{Outcome, gives}
 use Rattle.av_ir.specs.declared.module.Module.{Module}
 use Rattle.av_ir.specs.Marks.{marked_of}
-use Rattle.av_top.specs.declared.answer.Refusal.{Refusal}
 use Rattle.av_top.specs.declared.answer.Refusal.TheVariants as refused
 use Rattle.av_top.specs.Answer.{Answers, printed}
 use Rattle.av_top.specs.FirstPathText.{IsFirstPathText, IsModuleOf}

@@ -1,8 +1,8 @@
-use Rattle.std.proofs.Common.{ap, Err}
+use Rattle.std.proofs.Common.{false, [], ◌∷◌, ap, Err}
+use Rattle.av_kept.proofs.EndAlike.{kept_loops}
+use Rattle.av_verify.specs.declared.module.Mode.TheVariants.{Scalar}
+use Rattle.av_top.proofs.Kept.{reads_again}
 use Rattle.av_top.proofs.OneModule.{handed_on, no_text, no_tree, not_memory, one_answer}
-use Rattle.av_top.proofs.Kept.{means_the_same, reads_again}
-use Rattle.av_top.specs.Answer.{Answers}
-use Rattle.av_top.specs.FirstPathText.{IsFirstPathText}
 use Rattle.av_top.proofs.answer.answer.Goals as goal
 
 pub returns-clause-ok : goal.returns-clause-ok
@@ -19,7 +19,7 @@ returns-clause-ok c = record {
   written = c.in_ok-texts.ensures.text;
   reports = c.in_ok-texts.ensures.report;
   again = reads_again c.args.request.size c.in_ok-tree.tree c.in_ok-module.module _ c.requires.0 c.in_ok-module.ensures.ok c.in_ok-texts.ensures.few c.in_ok-texts.ensures.text;
-  meaning = means_the_same c.args.request.size c.in_ok-tree.tree c.in_ok-module.module c.in_ok-module.ensures.ok;
+  meaning = kept_loops c.in_ok-tree.tree (Scalar (record { sizes = c.args.request.size ∷ []; scalable = false })) c.in_ok-module.module c.in_ok-module.ensures.ok.elaborates;
 }
 
 pub returns-clause-only : goal.returns-clause-only
