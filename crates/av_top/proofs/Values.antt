@@ -1,5 +1,5 @@
 -- No function has more values than the greatest number of them.
-use Rattle.std.proofs.Common.{ℕ, ◌<◌, ◌^◌, ◌≡◌, List, [], ◌∷◌, length, nat_lt, fold, if◌then◌else◌, arith}
+use Rattle.std.proofs.Common.{ℕ, ◌<◌, ◌^◌, List, [], ◌∷◌, length, nat_lt, fold, if◌then◌else◌, arith}
 use Rattle.std.proofs.lemmas.List.Elements.{All-nil, All-cons}
 use Rattle.std.specs.List.{All}
 use Rattle.av_ir.specs.declared.module.Func.{Func}
