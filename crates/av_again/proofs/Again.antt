@@ -19,9 +19,10 @@ use Rattle.av_derive.specs.Derivation as derivation
 use Rattle.av_derive.specs.Derivation.{Derives, WithinBrackets, WithinSigns, signs_with}
 use Rattle.av_derive.specs.State.{signs_after}
 use Rattle.av_derive.proofs.Steps.{signs-bound}
-use Rattle.av_reader.specs.declared.building.value.Value.{Value}
-use Rattle.av_reader.specs.declared.building.value.Value.TheVariants as value
-use Rattle.av_reader.specs.Building.{by_event, by_row, only_tree, place_of, values_of}
+use Rattle.av_values.specs.declared.value.Value.{Value}
+use Rattle.av_values.specs.declared.value.Value.TheVariants as value
+use Rattle.av_values.specs.Sorts.{only_tree}
+use Rattle.av_reader.specs.Building.{by_event, by_row, place_of, values_of}
 use Rattle.av_again.specs.Making.{Word, words_of, class_of_word, is_calculation, FewSigns, Makes}
 use Rattle.av_again.specs.Making as making
 use Rattle.av_again.specs.Places.{unplaced}

@@ -17,11 +17,11 @@ use Rattle.av_tree.specs.declared.table.regions.RegionName.TheVariants as region
 use Rattle.av_tree.specs.declared.table.regions.RegionRule.TheVariants as regions
 use Rattle.av_tree.specs.declared.table.attributes.AttributeRule.TheVariants as attributes
 use Rattle.av_derive.specs.ClassOf.{keywords}
-use Rattle.av_reader.specs.declared.building.value.Value.TheVariants as value
-use Rattle.av_reader.specs.Nodes.{plain}
-use Rattle.av_reader.specs.Operations.{is_module, module_of, root_of}
+use Rattle.av_values.specs.declared.value.Value.TheVariants as value
+use Rattle.av_values.specs.Nodes.{plain}
+use Rattle.av_values.specs.Operations.{is_module, module_of, root_of}
 use Rattle.av_reader.specs.Building as building
-use Rattle.av_reader.specs.Sorts.{on_top, replaced}
+use Rattle.av_values.specs.Sorts.{on_top, replaced}
 use Rattle.av_again.specs.Making.{Makes, nothing, by_sign, by_word, by_row}
 use Rattle.av_again.specs.Laws.{ExampleLaw, example_words, example_tree}
 
@@ -68,7 +68,7 @@ unfolding replaced on_top
 content =
     by_row {ws = example_words} {others = []} {parts = value.Onward (record { node = module_here; others = [] }) ∷ []} (rule.File file.PlainContent) refl tt top_level refl nothing
 
-whole : building.by_row (rule.File file.WholeFile) 0 (value.Entries [] ∷ value.Nodes (module_here ∷ []) ∷ []) ≡ Some (value.Tree example_tree ∷ [])
+whole : building.by_row (rule.File file.WholeFile) 0 (value.Aliases [] ∷ value.Nodes (module_here ∷ []) ∷ []) ≡ Some (value.Tree example_tree ∷ [])
 unfolding replaced on_top
 whole = ap (λ (node : Node). Some (value.Tree (record { aliases = []; root = node }) ∷ [])) root
 
@@ -76,7 +76,7 @@ pub example : ExampleLaw
 unfolding replaced on_top keywords
 example = record {
   makes =
-      by_row {ws = example_words} {others = []} {parts = value.Entries [] ∷ value.Nodes (module_here ∷ []) ∷ []} (rule.File file.WholeFile) refl tt
+      by_row {ws = example_words} {others = []} {parts = value.Aliases [] ∷ value.Nodes (module_here ∷ []) ∷ []} (rule.File file.WholeFile) refl tt
       (by_row {ws = []} {parts = []} (rule.File file.NoMoreAliases) refl tt nothing refl content)
       whole nothing;
   brackets = (lit≤ tt, (lit≤ tt, (lit≤ tt, tt)));

@@ -16,6 +16,8 @@ use Rattle.av_tree.specs.declared.table.functions.FunctionRule.{FunctionRule}
 use Rattle.av_tree.specs.declared.table.functions.FunctionRule.TheVariants as functions
 use Rattle.av_tree.specs.declared.table.regions.RegionRule.{RegionRule}
 use Rattle.av_tree.specs.declared.table.regions.RegionRule.TheVariants as regions
+use Rattle.av_tree.specs.declared.table.generic.GenericRule.{GenericRule}
+use Rattle.av_tree.specs.declared.table.generic.GenericRule.TheVariants as generics
 use Rattle.av_tree.specs.declared.table.types.TypeRule.{TypeRule}
 use Rattle.av_tree.specs.declared.table.types.TypeRule.TheVariants as types
 use Rattle.av_tree.specs.declared.table.attributes.AttributeRule.{AttributeRule}
@@ -30,6 +32,12 @@ use Rattle.av_tree.specs.declared.table.arith.ArithRule.{ArithRule}
 use Rattle.av_tree.specs.declared.table.arith.ArithRule.TheVariants as arith_rule
 use Rattle.av_tree.specs.declared.table.affine.AffineRule.{AffineRule}
 use Rattle.av_tree.specs.declared.table.affine.AffineRule.TheVariants as affine
+use Rattle.av_tree.specs.declared.table.memref.MemRefRule.{MemRefRule}
+use Rattle.av_tree.specs.declared.table.memref.MemRefRule.TheVariants as memrefs
+use Rattle.av_tree.specs.declared.table.scf.ScfRule.{ScfRule}
+use Rattle.av_tree.specs.declared.table.scf.ScfRule.TheVariants as scfs
+use Rattle.av_tree.specs.declared.table.vector.VectorRule.{VectorRule}
+use Rattle.av_tree.specs.declared.table.vector.VectorRule.TheVariants as vectors
 use Rattle.av_tree.specs.declared.table.subscripts.SubscriptRule.{SubscriptRule}
 use Rattle.av_tree.specs.declared.table.subscripts.SubscriptRule.TheVariants as subscripts
 use Rattle.av_tree.specs.declared.table.subscripts.SubscriptName.TheVariants as subscripts_name
@@ -108,6 +116,10 @@ fair-region : (r : RegionRule) → IsTrue (is_fair (rule.Region r))
 fair-region regions.NoMoreOperations = refl
 fair-region _ = refl
 
+fair-generic : (r : GenericRule) → IsTrue (is_fair (rule.Generic r))
+fair-generic generics.GenericForm = refl
+fair-generic _ = refl
+
 fair-type : (r : TypeRule) → IsTrue (is_fair (rule.Type r))
 fair-type types.ScalarType = refl
 fair-type _ = refl
@@ -136,10 +148,22 @@ fair-subscript : (r : SubscriptRule) → IsTrue (is_fair (rule.Subscript r))
 fair-subscript subscripts.NoSubscripts = refl
 fair-subscript _ = refl
 
+fair-memref : (r : MemRefRule) → IsTrue (is_fair (rule.MemRef r))
+fair-memref memrefs.MemRefLoad = refl
+fair-memref _ = refl
+
+fair-scf : (r : ScfRule) → IsTrue (is_fair (rule.Scf r))
+fair-scf scfs.ScfFor = refl
+
+fair-vector : (r : VectorRule) → IsTrue (is_fair (rule.Vector r))
+fair-vector vectors.VectorLoad = refl
+fair-vector _ = refl
+
 pub fair : (r : Rule) → IsTrue (is_fair r)
 fair (rule.File r) = fair-file r
 fair (rule.Function r) = fair-function r
 fair (rule.Region r) = fair-region r
+fair (rule.Generic r) = fair-generic r
 fair (rule.Type r) = fair-type r
 fair (rule.Attribute r) = fair-attribute r
 fair (rule.Map r) = fair-map r
@@ -147,3 +171,6 @@ fair (rule.Value r) = fair-value r
 fair (rule.Arith r) = fair-arith r
 fair (rule.Affine r) = fair-affine r
 fair (rule.Subscript r) = fair-subscript r
+fair (rule.MemRef r) = fair-memref r
+fair (rule.Scf r) = fair-scf r
+fair (rule.Vector r) = fair-vector r

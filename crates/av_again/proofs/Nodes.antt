@@ -6,21 +6,21 @@ use Rattle.std.specs.Prelude.{ℤ, codes, true, false, Bool, if◌then◌else◌
 use Rattle.std.specs.Option.{option_map_or}
 use Rattle.std.specs.Str.{bytes_eq}
 use Rattle.av_tree.specs.declared.node.Node.{Node, Node-F, fold-roll-Node, fold_out-Node, out-Node, roll-Node, out-roll-Node}
-use Rattle.av_tree.specs.declared.node.Body.{Body, fold-roll-Body, roll-Body}
+use Rattle.av_tree.specs.declared.node.Body.{Body, fold-roll-Body, fold_out-Body, out-Body, out-roll-Body, roll-Body}
 use Rattle.av_tree.specs.declared.node.BodyArg.{BodyArg}
 use Rattle.av_tree.specs.declared.attribute.Attr.{Attr}
 use Rattle.av_tree.specs.declared.attribute.Attr.TheVariants as attr
 use Rattle.av_tree.specs.declared.attribute.Named.{Named}
 use Rattle.av_tree.specs.declared.written.TypeText.{TypeText}
-use Rattle.av_reader.specs.declared.building.value.TypedValues.{TypedValues}
-use Rattle.av_reader.specs.declared.building.value.Constant.{Constant}
-use Rattle.av_reader.specs.declared.building.value.Carried.{Carried}
-use Rattle.av_reader.specs.declared.building.value.Expression.{Expression}
-use Rattle.av_reader.specs.declared.building.value.MapUse.{MapUse}
-use Rattle.av_reader.specs.Accesses.{numbering}
-use Rattle.av_reader.specs.Loops.{carried_lists, counter, ends_region, has_end, step, terminated, with_bound, with_carried}
-use Rattle.av_reader.specs.Nodes.{plain, entry, with_operands, with_property}
-use Rattle.av_reader.specs.Operations.{named, with_regions, module_of, is_module, root_of, function_of, name_of_end, with_typed, terminator_of, with_constant, constant_of, with_one_type, binary_of, with_region, with_buffer, with_unwritten_result, access_of, load_of, loop_of, store_of}
+use Rattle.av_values.specs.declared.value.TypedValues.{TypedValues}
+use Rattle.av_values.specs.declared.value.Constant.{Constant}
+use Rattle.av_values.specs.declared.value.Carried.{Carried}
+use Rattle.av_values.specs.declared.value.Expression.{Expression}
+use Rattle.av_values.specs.declared.value.MapUse.{MapUse}
+use Rattle.av_values.specs.Accesses.{numbering}
+use Rattle.av_values.specs.Loops.{carried_lists, counter, ended, ends_region, has_end, step, with_bound, with_carried}
+use Rattle.av_values.specs.Nodes.{plain, entry, with_attrs, with_body, with_operand, with_operands, with_property, with_result, with_results}
+use Rattle.av_values.specs.Operations.{named, with_regions, module_of, is_module, root_of, function_of, name_of_end, terminator_of, constant_of, binary_of, with_region, with_buffer, with_unwritten_result, access_of, load_of, loop_of, store_of}
 use Rattle.av_again.specs.Places.{body_step, node_step, unplaced_node, unplaced_body}
 
 -- a layer without places
@@ -43,11 +43,20 @@ pub unplaced-body : (args : List BodyArg) (nodes : List Node)
 unfolding unplaced_node unplaced_body
 unplaced-body args nodes = fold-roll-Body Body Node body_step node_step (record { args = args; nodes = nodes })
 
+pub out-unplaced-body : (body : Body) → out-Body (unplaced_body body) ≡ record { args = (out-Body body).args; nodes = map unplaced_node (out-Body body).nodes }
+unfolding unplaced_node unplaced_body
+out-unplaced-body body = ap out-Body (fold_out-Body Body Node body_step node_step body) ∙ out-roll-Body _
+
 -- what changes a layer and keeps its regions changes it likewise without places
 pub changed : (change later : Node-F Body Node → Node-F Body Node) → ((x : Node-F Body Node) → layer (change x) ≡ later (layer x)) → (node : Node)
     → unplaced_node (roll-Node (change (out-Node node))) ≡ roll-Node (later (out-Node (unplaced_node node)))
 changed change later same node =
     unplaced-roll (change (out-Node node)) ∙ ap roll-Node (same (out-Node node)) ∙ sym (ap (λ (x : Node-F Body Node). roll-Node (later x)) (out-unplaced node))
+
+-- the same of what changes nothing of places or regions
+pub kept : (change : Node-F Body Node → Node-F Body Node) → ((x : Node-F Body Node) → layer (change x) ≡ change (layer x)) → (node later : Node)
+    → unplaced_node node ≡ later → unplaced_node (roll-Node (change (out-Node node))) ≡ roll-Node (change (out-Node later))
+kept change same node later e = changed change change same node ∙ ap (λ (n : Node). roll-Node (change (out-Node n))) e
 
 pub plain-unplaced : (name : List ℕ) (place : ℕ) → unplaced_node (plain name place) ≡ plain name 0
 unfolding plain
@@ -64,7 +73,7 @@ regions-unplaced node properties attrs regions =
     (λ x. record x { properties = properties; attrs = attrs; regions = map unplaced_body regions }) (λ x. refl) node
 
 -- ---- lists of nodes
-map-reverse : {A B : Type 0} (f : A → B) (xs : List A) → map f (reverse xs) ≡ reverse (map f xs)
+pub map-reverse : {A B : Type 0} (f : A → B) (xs : List A) → map f (reverse xs) ≡ reverse (map f xs)
 map-reverse f [] = refl
 map-reverse f (x ∷ xs) =
     ap (map f) (reverse-append (x ∷ []) xs) ∙ map-append f (reverse xs) (x ∷ []) ∙ ap (λ l. l ++ f x ∷ []) (map-reverse f xs)
@@ -111,46 +120,68 @@ root-unplaced (node ∷ next ∷ nodes) = module-unplaced [] [] (node ∷ next �
 
 pub terminator-unplaced : (word : List ℕ) (values : TypedValues) (place : ℕ) → unplaced_node (terminator_of word values place) ≡ terminator_of word values 0
 terminator-unplaced word values place =
-    changed (λ x. record x { operands = reverse values.values; in_types = map (λ (type : TypeText). Some type) (reverse values.types) })
-    (λ x. record x { operands = reverse values.values; in_types = map (λ (type : TypeText). Some type) (reverse values.types) }) (λ x. refl) (plain (name_of_end word) place)
-    ∙ ap (λ (n : Node). with_typed n (reverse values.values) (map (λ (type : TypeText). Some type) (reverse values.types))) (plain-unplaced (name_of_end word) place)
+    kept (λ x. record x { operands = reverse values.values; in_types = map (λ (type : TypeText). Some type) (reverse values.types) }) (λ x. refl) _ _
+    (plain-unplaced (name_of_end word) place)
 
 pub constant-unplaced : (constant : Constant) (place : ℕ) → unplaced_node (constant_of constant place) ≡ constant_of constant 0
 constant-unplaced constant place =
-    changed (λ x. record x { properties = entry (codes "value") (attr.Number constant.value constant.ty) ∷ []; out_types = Some constant.ty ∷ [] })
-    (λ x. record x { properties = entry (codes "value") (attr.Number constant.value constant.ty) ∷ []; out_types = Some constant.ty ∷ [] }) (λ x. refl)
-    (plain (codes "arith.constant") place)
-    ∙ ap (λ (n : Node). with_constant n constant) (plain-unplaced (codes "arith.constant") place)
+    kept (λ x. record x { properties = entry (codes "value") constant.value ∷ []; out_types = constant.ty ∷ [] }) (λ x. refl) _ _
+    (plain-unplaced (codes "arith.constant") place)
 
 pub binary-unplaced : (word left right : List ℕ) (properties : List Named) (type : TypeText) (place : ℕ)
     → unplaced_node (binary_of word left right properties type place) ≡ binary_of word left right properties type 0
 binary-unplaced word left right properties type place =
-    changed (λ x. record x { operands = left ∷ right ∷ []; properties = reverse properties; in_types = Some type ∷ Some type ∷ []; out_types = Some type ∷ [] })
-    (λ x. record x { operands = left ∷ right ∷ []; properties = reverse properties; in_types = Some type ∷ Some type ∷ []; out_types = Some type ∷ [] }) (λ x. refl)
-    (plain word place)
-    ∙ ap (λ (n : Node). with_one_type n (left ∷ right ∷ []) (reverse properties) type) (plain-unplaced word place)
+    let change : Node-F Body Node → Node-F Body Node = λ x. record x {
+      operands = left ∷ right ∷ [];
+      properties = reverse properties;
+      in_types = Some type ∷ Some type ∷ [];
+      out_types = Some type ∷ [];
+    } in
+    kept change (λ x. refl) _ _ (plain-unplaced word place)
 
 -- ---- what changes an operation
-property-kept : (node later : Node) (name : List ℕ) (value : Attr) → unplaced_node node ≡ later
+pub property-kept : (node later : Node) (name : List ℕ) (value : Attr) → unplaced_node node ≡ later
     → unplaced_node (with_property node name value) ≡ with_property later name value
 unfolding with_property
-property-kept node later name value e =
-    changed (λ x. record x { properties = x.properties ++ entry name value ∷ [] }) (λ x. record x { properties = x.properties ++ entry name value ∷ [] }) (λ x. refl) node
-    ∙ ap (λ (n : Node). roll-Node (record (out-Node n) { properties = (out-Node n).properties ++ entry name value ∷ [] })) e
+property-kept node later name value e = kept (λ x. record x { properties = x.properties ++ entry name value ∷ [] }) (λ x. refl) node later e
 
-operands-kept : (node later : Node) (values : List (List ℕ)) → unplaced_node node ≡ later
+pub operands-kept : (node later : Node) (values : List (List ℕ)) → unplaced_node node ≡ later
     → unplaced_node (with_operands node values) ≡ with_operands later values
 unfolding with_operands
 operands-kept node later values e =
-    changed (λ x. record x { operands = x.operands ++ values; in_types = x.in_types ++ map (λ _. None) values })
-    (λ x. record x { operands = x.operands ++ values; in_types = x.in_types ++ map (λ _. None) values }) (λ x. refl) node
-    ∙ ap (λ (n : Node). roll-Node (record (out-Node n) { operands = (out-Node n).operands ++ values; in_types = (out-Node n).in_types ++ map (λ _. None) values })) e
+    kept (λ x. record x { operands = x.operands ++ values; in_types = x.in_types ++ map (λ _. None) values }) (λ x. refl) node later e
 
-bound-kept : (node later : Node) (name : List ℕ) (bound : MapUse) → unplaced_node node ≡ later
+pub operand-kept : (node later : Node) (value : List ℕ) (type : Option TypeText) → unplaced_node node ≡ later
+    → unplaced_node (with_operand node value type) ≡ with_operand later value type
+unfolding with_operand
+operand-kept node later value type e =
+    kept (λ x. record x { operands = x.operands ++ value ∷ []; in_types = x.in_types ++ type ∷ [] }) (λ x. refl) node later e
+
+pub result-kept : (node later : Node) (type : Option TypeText) → unplaced_node node ≡ later
+    → unplaced_node (with_result node type) ≡ with_result later type
+unfolding with_result
+result-kept node later type e = kept (λ x. record x { out_types = x.out_types ++ type ∷ [] }) (λ x. refl) node later e
+
+pub results-kept : (node later : Node) (types : List TypeText) → unplaced_node node ≡ later
+    → unplaced_node (with_results node types) ≡ with_results later types
+unfolding with_results
+results-kept node later types e =
+    kept (λ x. record x { out_types = x.out_types ++ map (λ (type : TypeText). Some type) types }) (λ x. refl) node later e
+
+pub unwritten-kept : (node later : Node) → unplaced_node node ≡ later → unplaced_node (with_unwritten_result node) ≡ with_unwritten_result later
+unfolding with_unwritten_result
+unwritten-kept node later e = kept (λ x. record x { out_types = None ∷ [] }) (λ x. refl) node later e
+
+pub attrs-kept : (node later : Node) (attrs : List Named) → unplaced_node node ≡ later
+    → unplaced_node (with_attrs node attrs) ≡ with_attrs later attrs
+unfolding with_attrs
+attrs-kept node later attrs e = kept (λ x. record x { attrs = attrs }) (λ x. refl) node later e
+
+pub bound-kept : (node later : Node) (name : List ℕ) (bound : MapUse) → unplaced_node node ≡ later
     → unplaced_node (with_bound node name bound) ≡ with_bound later name bound
 bound-kept node later name bound e = property-kept _ _ name bound.map (operands-kept _ _ bound.operands e)
 
-carried-kept : (node later : Node) (inits : List (List ℕ)) (types : List TypeText) → unplaced_node node ≡ later
+pub carried-kept : (node later : Node) (inits : List (List ℕ)) (types : List TypeText) → unplaced_node node ≡ later
     → unplaced_node (with_carried node inits types) ≡ with_carried later inits types
 unfolding with_carried
 carried-kept node later inits types e =
@@ -159,15 +190,7 @@ carried-kept node later inits types e =
       in_types = x.in_types ++ map (λ (type : TypeText). Some type) types;
       out_types = x.out_types ++ map (λ (type : TypeText). Some type) types;
     } in
-    changed change change (λ x. refl) node ∙ ap (λ (n : Node). roll-Node (change (out-Node n))) e
-
-region-kept : (node later : Node) (attrs : List Named) (body after : Body) → unplaced_body body ≡ after → unplaced_node node ≡ later
-    → unplaced_node (with_region node attrs body) ≡ with_region later attrs after
-unfolding with_region
-region-kept node later attrs body after f e =
-    changed (λ x. record x { attrs = attrs; regions = body ∷ [] }) (λ x. record x { attrs = attrs; regions = unplaced_body body ∷ [] }) (λ x. refl) node
-    ∙ ap (λ (n : Node). roll-Node (record (out-Node n) { attrs = attrs; regions = unplaced_body body ∷ [] })) e
-    ∙ ap (λ (b : Body). roll-Node (record (out-Node later) { attrs = attrs; regions = b ∷ [] })) f
+    kept change (λ x. refl) node later e
 
 buffer-kept : (node later : Node) (buffer : List ℕ) (type : TypeText) (attrs : List Named) → unplaced_node node ≡ later
     → unplaced_node (with_buffer node buffer type attrs) ≡ with_buffer later buffer type attrs
@@ -178,13 +201,24 @@ buffer-kept node later buffer type attrs e =
       in_types = x.in_types ++ Some type ∷ [];
       attrs = attrs;
     } in
-    changed change change (λ x. refl) node ∙ ap (λ (n : Node). roll-Node (change (out-Node n))) e
+    kept change (λ x. refl) node later e
 
-result-kept : (node later : Node) → unplaced_node node ≡ later → unplaced_node (with_unwritten_result node) ≡ with_unwritten_result later
-unfolding with_unwritten_result
-result-kept node later e =
-    changed (λ x. record x { out_types = None ∷ [] }) (λ x. record x { out_types = None ∷ [] }) (λ x. refl) node
-    ∙ ap (λ (n : Node). roll-Node (record (out-Node n) { out_types = None ∷ [] })) e
+pub region-kept : (node later : Node) (attrs : List Named) (body after : Body) → unplaced_body body ≡ after → unplaced_node node ≡ later
+    → unplaced_node (with_region node attrs body) ≡ with_region later attrs after
+unfolding with_region
+region-kept node later attrs body after f e =
+    changed (λ x. record x { attrs = attrs; regions = body ∷ [] }) (λ x. record x { attrs = attrs; regions = unplaced_body body ∷ [] }) (λ x. refl) node
+    ∙ ap (λ (n : Node). roll-Node (record (out-Node n) { attrs = attrs; regions = unplaced_body body ∷ [] })) e
+    ∙ ap (λ (b : Body). roll-Node (record (out-Node later) { attrs = attrs; regions = b ∷ [] })) f
+
+pub body-kept : (node later : Node) (body after : Body) → unplaced_body body ≡ after → unplaced_node node ≡ later
+    → unplaced_node (with_body node body) ≡ with_body later after
+unfolding with_body
+body-kept node later body after f e =
+    changed (λ x. record x { regions = x.regions ++ body ∷ [] }) (λ x. record x { regions = x.regions ++ unplaced_body body ∷ [] })
+    (λ x. ap (λ (bodies : List Body). record x { place = 0; regions = bodies }) (map-append unplaced_body x.regions (body ∷ []))) node
+    ∙ ap (λ (n : Node). roll-Node (record (out-Node n) { regions = (out-Node n).regions ++ unplaced_body body ∷ [] })) e
+    ∙ ap (λ (b : Body). roll-Node (record (out-Node later) { regions = (out-Node later).regions ++ b ∷ [] })) f
 
 -- ---- the end of a region
 last-of : (o : Option Node) → option_map_or (λ (node : Node). ends_region (out-Node node).name) (option_map unplaced_node o) false
@@ -198,19 +232,31 @@ end-unplaced nodes =
     ∙ ap (λ (o : Option Node). option_map_or (λ (node : Node). ends_region (out-Node node).name) o false) (slice_get-map unplaced_node nodes (length nodes - 1))
     ∙ last-of (slice_get nodes (length nodes - 1))
 
-yield-or : (b : Bool) (nodes : List Node)
-    → map unplaced_node (if b then nodes else nodes ++ plain (codes "affine.yield") 0 ∷ [])
-    ≡ (if b then map unplaced_node nodes else map unplaced_node nodes ++ plain (codes "affine.yield") 0 ∷ [])
-yield-or true nodes = refl
-yield-or false nodes =
-    map-append unplaced_node nodes (plain (codes "affine.yield") 0 ∷ [])
-    ∙ ap (λ (n : Node). map unplaced_node nodes ++ n ∷ []) (plain-unplaced (codes "affine.yield") 0)
+-- with an operation of this name behind these ones
+pub end-added : (name : List ℕ) (nodes : List Node) → map unplaced_node (nodes ++ plain name 0 ∷ []) ≡ map unplaced_node nodes ++ plain name 0 ∷ []
+end-added name nodes =
+    map-append unplaced_node nodes (plain name 0 ∷ []) ∙ ap (λ (n : Node). map unplaced_node nodes ++ n ∷ []) (plain-unplaced name 0)
 
-terminated-unplaced : (nodes : List Node) → map unplaced_node (terminated nodes) ≡ terminated (map unplaced_node nodes)
-unfolding terminated
-terminated-unplaced nodes =
-    yield-or (has_end nodes) nodes
-    ∙ ap (λ (b : Bool). if b then map unplaced_node nodes else map unplaced_node nodes ++ plain (codes "affine.yield") 0 ∷ []) (sym (end-unplaced nodes))
+end-or : (b : Bool) (name : List ℕ) (nodes : List Node)
+    → map unplaced_node (if b then nodes else nodes ++ plain name 0 ∷ [])
+    ≡ (if b then map unplaced_node nodes else map unplaced_node nodes ++ plain name 0 ∷ [])
+end-or true name nodes = refl
+end-or false name nodes = end-added name nodes
+
+ended-unplaced : (name : List ℕ) (nodes : List Node) → map unplaced_node (ended name nodes) ≡ ended name (map unplaced_node nodes)
+unfolding ended
+ended-unplaced name nodes =
+    end-or (has_end nodes) name nodes
+    ∙ ap (λ (b : Bool). if b then map unplaced_node nodes else map unplaced_node nodes ++ plain name 0 ∷ []) (sym (end-unplaced nodes))
+
+-- a region that ends with an operation of this name, its operations from the last to the first
+pub ended-body : (args : List BodyArg) (name : List ℕ) (nodes : List Node)
+    → unplaced_body (roll-Body (record { args = args; nodes = ended name (reverse nodes) }))
+    ≡ roll-Body (record { args = args; nodes = ended name (reverse (map unplaced_node nodes)) })
+ended-body args name nodes =
+    unplaced-body args (ended name (reverse nodes))
+    ∙ ap (λ (ns : List Node). roll-Body (record { args = args; nodes = ns }))
+    (ended-unplaced name (reverse nodes) ∙ ap (ended name) (map-reverse unplaced_node nodes))
 
 -- ---- operations of the Affine dialect
 pub loop-unplaced : (name : List ℕ) (lower upper : MapUse) (by : ℤ) (carried : Carried) (nodes : List Node) (attrs : List Named) (place : ℕ)
@@ -218,10 +264,7 @@ pub loop-unplaced : (name : List ℕ) (lower upper : MapUse) (by : ℤ) (carried
 loop-unplaced name lower upper by carried nodes attrs place =
     let lists = carried_lists (reverse carried.pairs) carried.types in
     let args = counter name ∷ lists.args in
-    region-kept _ _ (reverse attrs) (roll-Body (record { args = args; nodes = terminated (reverse nodes) }))
-    (roll-Body (record { args = args; nodes = terminated (reverse (map unplaced_node nodes)) }))
-    (unplaced-body args (terminated (reverse nodes))
-    ∙ ap (λ (ns : List Node). roll-Body (record { args = args; nodes = ns })) (terminated-unplaced (reverse nodes) ∙ ap terminated (map-reverse unplaced_node nodes)))
+    region-kept _ _ (reverse attrs) _ _ (ended-body args (codes "affine.yield") nodes)
     (property-kept _ _ (codes "operandSegmentSizes") _
     (carried-kept _ _ lists.inits carried.types
     (property-kept _ _ (codes "step") (step by)
@@ -235,7 +278,7 @@ access-kept node later buffer subscripts attrs type e =
 
 pub load-unplaced : (buffer : List ℕ) (subscripts : List Expression) (attrs : List Named) (type : TypeText) (place : ℕ)
     → unplaced_node (load_of buffer subscripts attrs type place) ≡ load_of buffer subscripts attrs type 0
-load-unplaced buffer subscripts attrs type place = result-kept _ _ (access-kept _ _ buffer subscripts attrs type (plain-unplaced (codes "affine.load") place))
+load-unplaced buffer subscripts attrs type place = unwritten-kept _ _ (access-kept _ _ buffer subscripts attrs type (plain-unplaced (codes "affine.load") place))
 
 pub store-unplaced : (value buffer : List ℕ) (subscripts : List Expression) (attrs : List Named) (type : TypeText) (place : ℕ)
     → unplaced_node (store_of value buffer subscripts attrs type place) ≡ store_of value buffer subscripts attrs type 0

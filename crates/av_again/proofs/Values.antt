@@ -1,12 +1,13 @@
 -- The values on a stack without places, and how rows take them off it.
 use Rattle.std.proofs.Common.{◌≡◌, List, [], ◌∷◌, ◌++◌, map, refl, sym, ap, ◌∙◌}
 use Rattle.std.specs.Prelude.{Option, Some, None, option_map, option_and_then}
-use Rattle.av_reader.specs.declared.building.value.Value.{Value}
-use Rattle.av_reader.specs.declared.building.value.Value.TheVariants as value
-use Rattle.av_reader.specs.declared.building.value.Onward.{Onward}
-use Rattle.av_reader.specs.declared.building.value.Terminated.{Terminated}
-use Rattle.av_reader.specs.Sorts.{Sort, a_tree, a_node, a_nodes, a_onward, a_terminated, a_typed_values, a_arg, a_args, a_text, a_texts, a_number, a_constant, a_type, a_types, a_sizes, a_layout, a_attr, a_entry, a_entries, a_parameters, a_expression, a_expressions, a_parts, a_map_use, a_carried, Of, All, any, on_top, replaced}
-use Rattle.av_again.specs.Places.{unplaced_node, unplaced}
+use Rattle.av_values.specs.declared.value.Value.{Value}
+use Rattle.av_values.specs.declared.value.Value.TheVariants as value
+use Rattle.av_values.specs.declared.value.Onward.{Onward}
+use Rattle.av_values.specs.declared.value.Terminated.{Terminated}
+use Rattle.av_values.specs.declared.value.GenericParts.{GenericParts}
+use Rattle.av_values.specs.Sorts.{Sort, a_tree, a_node, a_nodes, a_onward, a_terminated, a_typed_values, a_arg, a_args, a_text, a_texts, a_number, a_constant, a_type, a_types, a_sizes, a_layout, a_attr, a_entry, a_entries, a_parameters, a_expression, a_expressions, a_parts, a_map_use, a_carried, a_aliases, a_generic, a_body, a_bodies, a_attrs, a_words, a_numbers, a_element, a_elements, a_dense, a_dims, a_size, a_row, a_rows, a_equal, a_selected, a_optional_type, Of, All, any, on_top, replaced}
+use Rattle.av_again.specs.Places.{unplaced_body, unplaced_node, unplaced}
 
 abbrev pub unplaced_onward : Onward → Onward
 unplaced_onward onward = record { node = unplaced_node onward.node; others = map unplaced_node onward.others }
@@ -14,12 +15,18 @@ unplaced_onward onward = record { node = unplaced_node onward.node; others = map
 abbrev pub unplaced_terminated : Terminated → Terminated
 unplaced_terminated terminated = record { values = terminated.values; nodes = map unplaced_node terminated.nodes }
 
+abbrev pub unplaced_generic : GenericParts → GenericParts
+unplaced_generic parts = record parts { regions = map unplaced_body parts.regions }
+
 abbrev pub unplaced_value : Value → Value
 unplaced_value (value.Tree tree) = value.Tree (unplaced tree)
 unplaced_value (value.Node node) = value.Node (unplaced_node node)
 unplaced_value (value.Nodes nodes) = value.Nodes (map unplaced_node nodes)
 unplaced_value (value.Onward onward) = value.Onward (unplaced_onward onward)
 unplaced_value (value.Terminated terminated) = value.Terminated (unplaced_terminated terminated)
+unplaced_value (value.Generic parts) = value.Generic (unplaced_generic parts)
+unplaced_value (value.Body body) = value.Body (unplaced_body body)
+unplaced_value (value.Bodies bodies) = value.Bodies (map unplaced_body bodies)
 unplaced_value v = v
 
 -- the same of a value of a sort
@@ -29,6 +36,9 @@ unplaced_of a_node node = unplaced_node node
 unplaced_of a_nodes nodes = map unplaced_node nodes
 unplaced_of a_onward onward = unplaced_onward onward
 unplaced_of a_terminated terminated = unplaced_terminated terminated
+unplaced_of a_generic parts = unplaced_generic parts
+unplaced_of a_body body = unplaced_body body
+unplaced_of a_bodies bodies = map unplaced_body bodies
 unplaced_of s v = v
 
 abbrev pub unplaced_all : (ss : List Sort) → All ss → All ss
@@ -74,6 +84,23 @@ top-under a_expressions (value.Expressions v) rest under = refl
 top-under a_parts (value.Parts v) rest under = refl
 top-under a_map_use (value.MapUse v) rest under = refl
 top-under a_carried (value.Carried v) rest under = refl
+top-under a_aliases (value.Aliases v) rest under = refl
+top-under a_generic (value.Generic v) rest under = refl
+top-under a_body (value.Body v) rest under = refl
+top-under a_bodies (value.Bodies v) rest under = refl
+top-under a_attrs (value.Attrs v) rest under = refl
+top-under a_words (value.Words v) rest under = refl
+top-under a_numbers (value.Numbers v) rest under = refl
+top-under a_element (value.Element v) rest under = refl
+top-under a_elements (value.Elements v) rest under = refl
+top-under a_dense (value.Dense v) rest under = refl
+top-under a_dims (value.Dims v) rest under = refl
+top-under a_size (value.Size v) rest under = refl
+top-under a_row (value.Row v) rest under = refl
+top-under a_rows (value.Rows v) rest under = refl
+top-under a_equal (value.Equal v) rest under = refl
+top-under a_selected (value.Selected v) rest under = refl
+top-under a_optional_type (value.OptionalType v) rest under = refl
 top-under s v rest under = refl
 
 on_top-under : (s : Sort) (values under : List Value)
@@ -112,6 +139,23 @@ top-unplaced a_expressions (value.Expressions v) rest = refl
 top-unplaced a_parts (value.Parts v) rest = refl
 top-unplaced a_map_use (value.MapUse v) rest = refl
 top-unplaced a_carried (value.Carried v) rest = refl
+top-unplaced a_aliases (value.Aliases v) rest = refl
+top-unplaced a_generic (value.Generic v) rest = refl
+top-unplaced a_body (value.Body v) rest = refl
+top-unplaced a_bodies (value.Bodies v) rest = refl
+top-unplaced a_attrs (value.Attrs v) rest = refl
+top-unplaced a_words (value.Words v) rest = refl
+top-unplaced a_numbers (value.Numbers v) rest = refl
+top-unplaced a_element (value.Element v) rest = refl
+top-unplaced a_elements (value.Elements v) rest = refl
+top-unplaced a_dense (value.Dense v) rest = refl
+top-unplaced a_dims (value.Dims v) rest = refl
+top-unplaced a_size (value.Size v) rest = refl
+top-unplaced a_row (value.Row v) rest = refl
+top-unplaced a_rows (value.Rows v) rest = refl
+top-unplaced a_equal (value.Equal v) rest = refl
+top-unplaced a_selected (value.Selected v) rest = refl
+top-unplaced a_optional_type (value.OptionalType v) rest = refl
 top-unplaced s v rest = refl
 
 on_top-unplaced : (s : Sort) (values : List Value)

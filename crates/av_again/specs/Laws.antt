@@ -8,8 +8,8 @@ use Rattle.av_tree.specs.declared.table.Symbol.TheVariants as symbol
 use Rattle.av_tree.specs.declared.table.Name.TheVariants as name
 use Rattle.av_tree.specs.declared.table.file.FileName.TheVariants as file_name
 use Rattle.av_derive.specs.Derivation.{WithinBrackets}
-use Rattle.av_reader.specs.declared.building.value.Value.TheVariants as value
-use Rattle.av_reader.specs.Operations.{module_of}
+use Rattle.av_values.specs.declared.value.Value.TheVariants as value
+use Rattle.av_values.specs.Operations.{module_of}
 use Rattle.av_reader.specs.Reading.{IsTree, the_limits}
 use Rattle.av_again.specs.Making.{Word, class_of_word, words_of, Makes}
 use Rattle.av_again.specs.Places.{unplaced}

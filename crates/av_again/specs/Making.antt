@@ -17,8 +17,8 @@ use Rattle.av_tree.specs.Table.{symbols_of, name_of}
 use Rattle.av_tree.specs.Classes.{fits_of}
 use Rattle.av_tree.specs.Signs.{begins_expression}
 use Rattle.av_derive.specs.ClassOf.{class_of, spelling_of}
-use Rattle.av_reader.specs.declared.building.value.Value.{Value}
-use Rattle.av_reader.specs.declared.building.value.Value.TheVariants as value
+use Rattle.av_values.specs.declared.value.Value.{Value}
+use Rattle.av_values.specs.declared.value.Value.TheVariants as value
 use Rattle.av_reader.specs.Building as building
 
 -- a token as a word: its kind and its text

@@ -11,6 +11,7 @@ use Rattle.av_tree.specs.declared.table.Rule.TheVariants as rule
 use Rattle.av_tree.specs.declared.table.file.FileRule.TheVariants as file
 use Rattle.av_tree.specs.declared.table.functions.FunctionRule.TheVariants as functions
 use Rattle.av_tree.specs.declared.table.regions.RegionRule.TheVariants as regions
+use Rattle.av_tree.specs.declared.table.generic.GenericRule.TheVariants as generic
 use Rattle.av_tree.specs.declared.table.types.TypeRule.TheVariants as types
 use Rattle.av_tree.specs.declared.table.attributes.AttributeRule.TheVariants as attributes
 use Rattle.av_tree.specs.declared.table.maps.MapRule.TheVariants as maps
@@ -18,6 +19,9 @@ use Rattle.av_tree.specs.declared.table.values.ValueRule.TheVariants as values
 use Rattle.av_tree.specs.declared.table.arith.ArithRule.TheVariants as arith
 use Rattle.av_tree.specs.declared.table.affine.AffineRule.TheVariants as affine
 use Rattle.av_tree.specs.declared.table.subscripts.SubscriptRule.TheVariants as subscripts
+use Rattle.av_tree.specs.declared.table.memref.MemRefRule.TheVariants as memref
+use Rattle.av_tree.specs.declared.table.scf.ScfRule.TheVariants as scf
+use Rattle.av_tree.specs.declared.table.vector.VectorRule.TheVariants as vector
 use Rattle.av_tree.specs.Table.{symbols_of, name_of}
 use Rattle.av_tree.specs.Classes.{bracket_of}
 use Rattle.av_tree.specs.Needs.{need_of}
@@ -37,15 +41,20 @@ calm_always : (r : Rule) → IsTrue (is_calm_always r)
 unfolding class_number first_of follow_of has is_same_class
 calm_always (rule.File file.WholeFile) = refl
 calm_always (rule.File file.NoMoreAliases) = refl
+calm_always (rule.File file.NextAlias) = refl
+calm_always (rule.File file.AliasOfMap) = refl
+calm_always (rule.File file.AliasOfSet) = refl
 calm_always (rule.File file.NoContent) = refl
 calm_always (rule.File file.NamedContent) = refl
 calm_always (rule.File file.PlainContent) = refl
 calm_always (rule.File file.OnlyModule) = refl
+calm_always (rule.File file.OnlyGenericModule) = refl
 calm_always (rule.File file.FirstFunction) = refl
 calm_always (rule.File file.NoMoreFunctions) = refl
 calm_always (rule.File file.NextNamedFunction) = refl
 calm_always (rule.File file.NextFunction) = refl
 calm_always (rule.File file.WrittenFunction) = refl
+calm_always (rule.File file.GenericFunction) = refl
 calm_always (rule.Function functions.BuiltinModule) = refl
 calm_always (rule.Function functions.NoSymbol) = refl
 calm_always (rule.Function functions.WrittenSymbol) = refl
@@ -69,11 +78,31 @@ calm_always (rule.Region regions.TerminatorLast) = refl
 calm_always (rule.Region regions.TerminatorThenOperation) = refl
 calm_always (rule.Region regions.ValuesAndTypes) = refl
 calm_always (rule.Region regions.NamedRegion) = refl
+calm_always (rule.Generic generic.GenericForm) = refl
+calm_always (rule.Generic generic.WholeGeneric) = refl
+calm_always (rule.Generic generic.NoProperties) = refl
+calm_always (rule.Generic generic.WrittenProperties) = refl
+calm_always (rule.Generic generic.NoRegions) = refl
+calm_always (rule.Generic generic.WrittenRegions) = refl
+calm_always (rule.Generic generic.NoMoreRegions) = refl
+calm_always (rule.Generic generic.NextRegion) = refl
+calm_always (rule.Generic generic.LabelledRegion) = refl
+calm_always (rule.Generic generic.NoLabel) = refl
+calm_always (rule.Generic generic.BlockLabel) = refl
+calm_always (rule.Generic generic.NoArguments) = refl
+calm_always (rule.Generic generic.FirstArgument) = refl
+calm_always (rule.Generic generic.NoMoreArguments) = refl
+calm_always (rule.Generic generic.NextArgument) = refl
 calm_always (rule.Type types.ScalarType) = refl
 calm_always (rule.Type types.BufferType) = refl
+calm_always (rule.Type types.TileType) = refl
 calm_always (rule.Type types.MemRefType) = refl
 calm_always (rule.Type types.NoMoreSizes) = refl
 calm_always (rule.Type types.NextSize) = refl
+calm_always (rule.Type types.VectorType) = refl
+calm_always (rule.Type types.NoMoreDims) = refl
+calm_always (rule.Type types.FixedDim) = refl
+calm_always (rule.Type types.ScalableDim) = refl
 calm_always (rule.Type types.NoTypes) = refl
 calm_always (rule.Type types.FirstType) = refl
 calm_always (rule.Type types.NoMoreTypes) = refl
@@ -83,22 +112,65 @@ calm_always (rule.Type types.ResultTypeList) = refl
 calm_always (rule.Type types.NoResultTypes) = refl
 calm_always (rule.Type types.WrittenResultTypes) = refl
 calm_always (rule.Type types.NoLayout) = refl
+calm_always (rule.Type types.StridedLayout) = refl
+calm_always (rule.Type types.NoStrides) = refl
+calm_always (rule.Type types.FirstStride) = refl
+calm_always (rule.Type types.NoMoreStrides) = refl
+calm_always (rule.Type types.NextStride) = refl
+calm_always (rule.Type types.StaticStride) = refl
+calm_always (rule.Type types.DynamicStride) = refl
+calm_always (rule.Type types.NoOffset) = refl
+calm_always (rule.Type types.WrittenOffset) = refl
 calm_always (rule.Attribute attributes.NumberAttribute) = refl
+calm_always (rule.Attribute attributes.BoolAttribute) = refl
+calm_always (rule.Attribute attributes.StringAttribute) = refl
+calm_always (rule.Attribute attributes.SymbolAttribute) = refl
+calm_always (rule.Attribute attributes.TypeAttribute) = refl
+calm_always (rule.Attribute attributes.MapAttribute) = refl
+calm_always (rule.Attribute attributes.SetAttribute) = refl
+calm_always (rule.Attribute attributes.AliasAttribute) = refl
+calm_always (rule.Attribute attributes.HashAttribute) = refl
+calm_always (rule.Attribute attributes.ListAttribute) = refl
+calm_always (rule.Attribute attributes.DictionaryAttribute) = refl
+calm_always (rule.Attribute attributes.ArrayAttribute) = refl
+calm_always (rule.Attribute attributes.DenseAttribute) = refl
 calm_always (rule.Attribute attributes.NoNumberType) = refl
 calm_always (rule.Attribute attributes.WrittenNumberType) = refl
+calm_always (rule.Attribute attributes.NoHashWords) = refl
+calm_always (rule.Attribute attributes.WrittenHashWords) = refl
+calm_always (rule.Attribute attributes.NoAttributes) = refl
+calm_always (rule.Attribute attributes.FirstAttribute) = refl
+calm_always (rule.Attribute attributes.NoMoreAttributes) = refl
+calm_always (rule.Attribute attributes.NextAttribute) = refl
+calm_always (rule.Attribute attributes.NoArrayNumbers) = refl
+calm_always (rule.Attribute attributes.WrittenArrayNumbers) = refl
+calm_always (rule.Attribute attributes.DenseElements) = refl
+calm_always (rule.Attribute attributes.NumberElement) = refl
+calm_always (rule.Attribute attributes.BoolElement) = refl
+calm_always (rule.Attribute attributes.ListElement) = refl
+calm_always (rule.Attribute attributes.NoElements) = refl
+calm_always (rule.Attribute attributes.FirstElement) = refl
+calm_always (rule.Attribute attributes.NoMoreElements) = refl
+calm_always (rule.Attribute attributes.NextElement) = refl
 calm_always (rule.Attribute attributes.WrittenDictionary) = refl
 calm_always (rule.Attribute attributes.NoEntries) = refl
 calm_always (rule.Attribute attributes.FirstEntry) = refl
 calm_always (rule.Attribute attributes.NoMoreEntries) = refl
 calm_always (rule.Attribute attributes.NextEntry) = refl
 calm_always (rule.Attribute attributes.PlainEntry) = refl
+calm_always (rule.Attribute attributes.FunctionTypeEntry) = refl
 calm_always (rule.Attribute attributes.UnitEntry) = refl
 calm_always (rule.Attribute attributes.WrittenEntry) = refl
+calm_always (rule.Attribute attributes.UnitFunctionType) = refl
+calm_always (rule.Attribute attributes.WrittenFunctionType) = refl
+calm_always (rule.Attribute attributes.NoFunctionType) = refl
+calm_always (rule.Attribute attributes.FunctionType) = refl
 calm_always (rule.Attribute attributes.NoDictionary) = refl
 calm_always (rule.Attribute attributes.DictionaryHere) = refl
 calm_always (rule.Attribute attributes.NoAttributesPart) = refl
 calm_always (rule.Attribute attributes.AttributesPart) = refl
 calm_always (rule.Map maps.WrittenMap) = refl
+calm_always (rule.Map maps.WrittenSet) = refl
 calm_always (rule.Map maps.DimensionNames) = refl
 calm_always (rule.Map maps.NoSymbolNames) = refl
 calm_always (rule.Map maps.WrittenSymbolNames) = refl
@@ -110,6 +182,13 @@ calm_always (rule.Map maps.NoExpressions) = refl
 calm_always (rule.Map maps.FirstExpression) = refl
 calm_always (rule.Map maps.NoMoreExpressions) = refl
 calm_always (rule.Map maps.NextExpression) = refl
+calm_always (rule.Map maps.NoSetRows) = refl
+calm_always (rule.Map maps.FirstSetRow) = refl
+calm_always (rule.Map maps.NoMoreSetRows) = refl
+calm_always (rule.Map maps.NextSetRow) = refl
+calm_always (rule.Map maps.RowOfSet) = refl
+calm_always (rule.Map maps.AtLeastZero) = refl
+calm_always (rule.Map maps.EqualToZero) = refl
 calm_always (rule.Map maps.WholeExpression) = refl
 calm_always (rule.Map maps.NoMoreTerms) = refl
 calm_always (rule.Map maps.PlusTerm) = refl
@@ -133,21 +212,40 @@ calm_always (rule.Value values.NoValues) = refl
 calm_always (rule.Value values.FirstValue) = refl
 calm_always (rule.Value values.NoMoreValues) = refl
 calm_always (rule.Value values.NextValue) = refl
+calm_always (rule.Value values.NoFurtherValue) = refl
+calm_always (rule.Value values.FurtherValue) = refl
 calm_always (rule.Value values.PlainInteger) = refl
 calm_always (rule.Value values.NegativeInteger) = refl
+calm_always (rule.Value values.NoIntegers) = refl
+calm_always (rule.Value values.FirstInteger) = refl
+calm_always (rule.Value values.NoMoreIntegers) = refl
+calm_always (rule.Value values.NextInteger) = refl
 calm_always (rule.Value values.ResultNames) = refl
 calm_always (rule.Value values.NoMoreResults) = refl
 calm_always (rule.Value values.NextResult) = refl
 calm_always (rule.Value values.OneResult) = refl
 calm_always (rule.Value values.CountedResults) = refl
 calm_always (rule.Arith arith.ArithConstant) = refl
-calm_always (rule.Arith arith.NumberConstant) = refl
 calm_always (rule.Arith arith.ArithOverflowing) = refl
+calm_always (rule.Arith arith.ArithBinary) = refl
+calm_always (rule.Arith arith.ArithCmpi) = refl
+calm_always (rule.Arith arith.ArithSelect) = refl
+calm_always (rule.Arith arith.ArithCast) = refl
+calm_always (rule.Arith arith.BoolConstant) = refl
+calm_always (rule.Arith arith.NumberConstant) = refl
+calm_always (rule.Arith arith.DenseConstant) = refl
 calm_always (rule.Arith arith.NoOverflow) = refl
 calm_always (rule.Arith arith.WrittenOverflow) = refl
 calm_always (rule.Arith arith.NoMoreOverflowFlags) = refl
 calm_always (rule.Arith arith.NextOverflowFlag) = refl
+calm_always (rule.Arith arith.ScalarSelected) = refl
+calm_always (rule.Arith arith.BufferSelected) = refl
+calm_always (rule.Arith arith.VectorThenSelected) = refl
+calm_always (rule.Arith arith.OnlySelected) = refl
+calm_always (rule.Arith arith.SelectedByVector) = refl
 calm_always (rule.Affine affine.AffineFor) = refl
+calm_always (rule.Affine affine.AffineIf) = refl
+calm_always (rule.Affine affine.AffineMapOp) = refl
 calm_always (rule.Affine affine.AffineLoad) = refl
 calm_always (rule.Affine affine.AffineStore) = refl
 calm_always (rule.Affine affine.GreatestOf) = refl
@@ -166,9 +264,14 @@ calm_always (rule.Affine affine.FirstCarried) = refl
 calm_always (rule.Affine affine.NoMoreCarried) = refl
 calm_always (rule.Affine affine.NextCarried) = refl
 calm_always (rule.Affine affine.MapWritten) = refl
+calm_always (rule.Affine affine.MapByAlias) = refl
+calm_always (rule.Affine affine.SetWritten) = refl
+calm_always (rule.Affine affine.SetByAlias) = refl
 calm_always (rule.Affine affine.DimensionOperands) = refl
 calm_always (rule.Affine affine.NoSymbolOperands) = refl
 calm_always (rule.Affine affine.WrittenSymbolOperands) = refl
+calm_always (rule.Affine affine.NoElse) = refl
+calm_always (rule.Affine affine.WrittenElse) = refl
 calm_always (rule.Subscript subscripts.NoSubscripts) = refl
 calm_always (rule.Subscript subscripts.FirstSubscript) = refl
 calm_always (rule.Subscript subscripts.NoMoreSubscripts) = refl
@@ -189,6 +292,22 @@ calm_always (rule.Subscript subscripts.NegatedSubscriptBase) = refl
 calm_always (rule.Subscript subscripts.DimensionValue) = refl
 calm_always (rule.Subscript subscripts.SymbolValue) = refl
 calm_always (rule.Subscript subscripts.SubscriptInBrackets) = refl
+calm_always (rule.MemRef memref.MemRefLoad) = refl
+calm_always (rule.MemRef memref.MemRefStore) = refl
+calm_always (rule.MemRef memref.MemRefDim) = refl
+calm_always (rule.Scf scf.ScfFor) = refl
+calm_always (rule.Vector vector.VectorLoad) = refl
+calm_always (rule.Vector vector.VectorStore) = refl
+calm_always (rule.Vector vector.VectorMaskedLoad) = refl
+calm_always (rule.Vector vector.VectorMaskedStore) = refl
+calm_always (rule.Vector vector.VectorBroadcast) = refl
+calm_always (rule.Vector vector.VectorCreateMask) = refl
+calm_always (rule.Vector vector.VectorReduction) = refl
+calm_always (rule.Vector vector.VectorExtract) = refl
+calm_always (rule.Vector vector.VectorInsert) = refl
+calm_always (rule.Vector vector.VectorShuffle) = refl
+calm_always (rule.Vector vector.VectorStep) = refl
+calm_always (rule.Vector vector.VectorVscale) = refl
 
 no_closing : (c : Class) → bracket_of c ≡ bracket.None → bracket_of c ≡ bracket.Closes → ⊥
 no_closing c e f = absurd (cc)
@@ -232,6 +351,8 @@ calm-class r class.HashDigits e = absurd (no_closing class.HashDigits refl e)
 calm-class r class.HashWord e = absurd (no_closing class.HashWord refl e)
 calm-class r class.HashOther e = absurd (no_closing class.HashOther refl e)
 calm-class r class.CaretId e = absurd (no_closing class.CaretId refl e)
+calm-class r class.QuotedModule e = absurd (no_closing class.QuotedModule refl e)
+calm-class r class.QuotedFunc e = absurd (no_closing class.QuotedFunc refl e)
 calm-class r class.Quoted e = absurd (no_closing class.Quoted refl e)
 
 none : (n : ℕ) → IsTrue (nat_eq n 0) → n ≡ 0

@@ -1,5 +1,5 @@
 -- The class of a token, by its kind and the bytes that spell it.
-use Rattle.std.specs.Prelude.{ℕ, ◌+◌, Bool, false, not, ◌&&◌, ◌||◌, ◌==◌, nat_le, List, [], ◌∷◌, length, take, drop, map, Option, Some, None, if◌then◌else◌, codes, bytes_eq}
+use Rattle.std.specs.Prelude.{ℕ, ◌+◌, Bool, false, not, ◌&&◌, ◌||◌, ◌==◌, nat_le, List, [], ◌∷◌, ◌++◌, length, take, drop, map, Option, Some, None, if◌then◌else◌, codes, bytes_eq}
 use Rattle.std.specs.List.{list_all}
 use Rattle.std.specs.Char.{is_ascii_digit}
 use Rattle.av_lex.specs.declared.token.Kind.{Kind}
@@ -18,20 +18,48 @@ keywords =
     (codes "module", key.Module) ∷
     (codes "func.func", key.FuncFunc) ∷
     (codes "arith.constant", key.ArithConstant) ∷
+    (codes "arith.cmpi", key.ArithCmpi) ∷
+    (codes "arith.select", key.ArithSelect) ∷
     (codes "affine.for", key.AffineFor) ∷
+    (codes "affine.if", key.AffineIf) ∷
     (codes "affine.load", key.AffineLoad) ∷
     (codes "affine.store", key.AffineStore) ∷
+    (codes "memref.load", key.MemRefLoad) ∷
+    (codes "memref.store", key.MemRefStore) ∷
+    (codes "memref.dim", key.MemRefDim) ∷
+    (codes "scf.for", key.ScfFor) ∷
+    (codes "vector.load", key.VectorLoad) ∷
+    (codes "vector.store", key.VectorStore) ∷
+    (codes "vector.maskedload", key.VectorMaskedLoad) ∷
+    (codes "vector.maskedstore", key.VectorMaskedStore) ∷
+    (codes "vector.broadcast", key.VectorBroadcast) ∷
+    (codes "vector.create_mask", key.VectorCreateMask) ∷
+    (codes "vector.reduction", key.VectorReduction) ∷
+    (codes "vector.extract", key.VectorExtract) ∷
+    (codes "vector.insert", key.VectorInsert) ∷
+    (codes "vector.shuffle", key.VectorShuffle) ∷
+    (codes "vector.step", key.VectorStep) ∷
+    (codes "vector.vscale", key.VectorVscale) ∷
     (codes "memref", key.MemRef) ∷
+    (codes "vector", key.Vector) ∷
+    (codes "strided", key.Strided) ∷
+    (codes "offset", key.Offset) ∷
     (codes "affine_map", key.AffineMap) ∷
+    (codes "affine_set", key.AffineSet) ∷
+    (codes "array", key.Array) ∷
+    (codes "dense", key.Dense) ∷
+    (codes "function_type", key.FunctionType) ∷
     (codes "symbol", key.Symbol) ∷
     (codes "overflow", key.Overflow) ∷
     (codes "attributes", key.Attributes) ∷
     (codes "to", key.To) ∷
     (codes "step", key.Step) ∷
     (codes "iter_args", key.IterArgs) ∷
+    (codes "else", key.Else) ∷
+    (codes "into", key.Into) ∷
+    (codes "from", key.From) ∷
     (codes "min", key.Min) ∷
     (codes "max", key.Max) ∷
-    (codes "function_type", key.FunctionType) ∷
     (codes "return", key.Terminator) ∷
     (codes "func.return", key.Terminator) ∷
     (codes "affine.yield", key.Terminator) ∷
@@ -40,6 +68,32 @@ keywords =
     (codes "arith.subi", key.Overflowing) ∷
     (codes "arith.muli", key.Overflowing) ∷
     (codes "arith.shli", key.Overflowing) ∷
+    (codes "arith.divsi", key.Binary) ∷
+    (codes "arith.divui", key.Binary) ∷
+    (codes "arith.remsi", key.Binary) ∷
+    (codes "arith.remui", key.Binary) ∷
+    (codes "arith.floordivsi", key.Binary) ∷
+    (codes "arith.ceildivsi", key.Binary) ∷
+    (codes "arith.ceildivui", key.Binary) ∷
+    (codes "arith.andi", key.Binary) ∷
+    (codes "arith.ori", key.Binary) ∷
+    (codes "arith.xori", key.Binary) ∷
+    (codes "arith.shrsi", key.Binary) ∷
+    (codes "arith.shrui", key.Binary) ∷
+    (codes "arith.minsi", key.Binary) ∷
+    (codes "arith.minui", key.Binary) ∷
+    (codes "arith.maxsi", key.Binary) ∷
+    (codes "arith.maxui", key.Binary) ∷
+    (codes "arith.extsi", key.Cast) ∷
+    (codes "arith.extui", key.Cast) ∷
+    (codes "arith.trunci", key.Cast) ∷
+    (codes "arith.index_cast", key.Cast) ∷
+    (codes "arith.index_castui", key.Cast) ∷
+    (codes "affine.apply", key.MapOp) ∷
+    (codes "affine.min", key.MapOp) ∷
+    (codes "affine.max", key.MapOp) ∷
+    (codes "true", key.Bool) ∷
+    (codes "false", key.Bool) ∷
     (codes "private", key.Visibility) ∷
     (codes "public", key.Visibility) ∷
     (codes "nsw", key.OverflowFlag) ∷
@@ -47,6 +101,25 @@ keywords =
     (codes "mod", key.Division) ∷
     (codes "floordiv", key.Division) ∷
     (codes "ceildiv", key.Division) ∷
+    (codes "add", key.Kind) ∷
+    (codes "mul", key.Kind) ∷
+    (codes "and", key.Kind) ∷
+    (codes "or", key.Kind) ∷
+    (codes "xor", key.Kind) ∷
+    (codes "minsi", key.Kind) ∷
+    (codes "minui", key.Kind) ∷
+    (codes "maxsi", key.Kind) ∷
+    (codes "maxui", key.Kind) ∷
+    (codes "eq", key.Predicate) ∷
+    (codes "ne", key.Predicate) ∷
+    (codes "slt", key.Predicate) ∷
+    (codes "sle", key.Predicate) ∷
+    (codes "sgt", key.Predicate) ∷
+    (codes "sge", key.Predicate) ∷
+    (codes "ult", key.Predicate) ∷
+    (codes "ule", key.Predicate) ∷
+    (codes "ugt", key.Predicate) ∷
+    (codes "uge", key.Predicate) ∷
     []
 
 -- what the first of these entries with the word says of it
@@ -82,6 +155,12 @@ abbrev pub class_of_hash : List ℕ → Class
 class_of_hash [] = class.HashOther
 class_of_hash (mark ∷ name) = if list_all is_ascii_digit name then class.HashDigits else if spells_word name then class.HashWord else class.HashOther
 
+-- the class of a text in quotes, the quotes included
+abbrev pub class_of_quoted : List ℕ → Class
+class_of_quoted spelling =
+    if bytes_eq spelling (34 ∷ codes "builtin.module" ++ 34 ∷ []) then class.QuotedModule
+    else if bytes_eq spelling (34 ∷ codes "func.func" ++ 34 ∷ []) then class.QuotedFunc else class.Quoted
+
 -- the class of a token of this kind with these bytes
 abbrev pub class_of : Kind → List ℕ → Class
 class_of (kind.Sign sign) spelling = class.Sign sign
@@ -93,7 +172,7 @@ class_of kind.ScalX spelling = class.ScalX
 class_of kind.ValId spelling = class.ValId
 class_of kind.SymId spelling = class.SymId
 class_of kind.CaretId spelling = class.CaretId
-class_of kind.Quoted spelling = class.Quoted
+class_of kind.Quoted spelling = class_of_quoted spelling
 
 -- the bytes of a token in its text; none where it isn't within the text
 abbrev pub spelling_of : List ℕ → Token → List ℕ

@@ -1,11 +1,11 @@
 //! The classes of tokens, by their kinds and spellings.
 
-ghost use Rattle.std.specs.Prelude.{◌≡◌, ◌==◌, IfOk};
+ghost use Rattle.std.specs.Prelude.{◌≡◌, ◌==◌, drop, IfOk};
 ghost use Rattle.std.specs.List.{list_all};
 ghost use Rattle.std.specs.Char.{is_ascii_digit as is_digit};
 ghost use Rattle.av_lex.specs.declared.class.Class.TheVariants.{Word as WordByte, WordStart};
 ghost use Rattle.av_lex.specs.Bytes.{in_class};
-ghost use Rattle.av_derive.specs.ClassOf.{class_of as the_class_of, spelling_of as the_spelling_of, classes_of as the_classes_of, class_of_keyword, keyword_of as the_keyword_of, is_scalar as is_scalar_word, class_of_hash as the_class_of_hash, spells_word, keywords, found_in};
+ghost use Rattle.av_derive.specs.ClassOf.{class_of as the_class_of, spelling_of as the_spelling_of, classes_of as the_classes_of, class_of_keyword, keyword_of as the_keyword_of, is_scalar as is_scalar_word, class_of_hash as the_class_of_hash, class_of_quoted as the_class_of_quoted, spells_word, keywords, found_in};
 ghost use Rattle.av_derive.specs.WordLengths.{of_lengths};
 
 use av_lex::{Kind, Token};
@@ -32,7 +32,7 @@ pub fn class_of(kind: Kind, spelling: &[u8]) -> Class
         Kind::ValId => Class::ValId,
         Kind::SymId => Class::SymId,
         Kind::CaretId => Class::CaretId,
-        Kind::Quoted => Class::Quoted,
+        Kind::Quoted => class_of_quoted(spelling),
     }
 }
 
@@ -65,24 +65,41 @@ fn keyword_of(word: &[u8]) -> Option<Keyword>
     ensures { result ≡ the_keyword_of word.now }
 {
     match word.len() {
-        0..=4 => short_keyword(word),
-        5..=7 => middle_keyword(word),
-        8..=9 => long_keyword(word),
-        10 => longer_keyword(word),
-        11..=14 => longest_keyword(word),
+        0..=2 => keyword_to_two(word),
+        3 => keyword_of_three(word),
+        4 => keyword_of_four(word),
+        5 => keyword_of_five(word),
+        6 => keyword_of_six(word),
+        7..=9 => keyword_to_nine(word),
+        10 => keyword_of_ten(word),
+        11 => keyword_of_eleven(word),
+        12..=13 => keyword_to_thirteen(word),
+        14..=15 => keyword_to_fifteen(word),
+        16..=18 => keyword_to_eighteen(word),
         _ => None,
     }
 }
 
 #[tactic(auto, unfolding(crate::specs::ClassOf::keywords))]
-fn short_keyword(word: &[u8]) -> Option<Keyword>
-    ensures { result ≡ found_in (of_lengths 0 4 keywords) word.now }
+fn keyword_to_two(word: &[u8]) -> Option<Keyword>
+    ensures { result ≡ found_in (of_lengths 0 2 keywords) word.now }
 {
     if word == b"to".as_slice() {
         Some(Keyword::To)
-    } else if word == b"step".as_slice() {
-        Some(Keyword::Step)
-    } else if word == b"min".as_slice() {
+    } else if word == b"or".as_slice() {
+        Some(Keyword::Kind)
+    } else if word == b"eq".as_slice() || word == b"ne".as_slice() {
+        Some(Keyword::Predicate)
+    } else {
+        None
+    }
+}
+
+#[tactic(auto, unfolding(crate::specs::ClassOf::keywords))]
+fn keyword_of_three(word: &[u8]) -> Option<Keyword>
+    ensures { result ≡ found_in (of_lengths 3 3 keywords) word.now }
+{
+    if word == b"min".as_slice() {
         Some(Keyword::Min)
     } else if word == b"max".as_slice() {
         Some(Keyword::Max)
@@ -90,45 +107,122 @@ fn short_keyword(word: &[u8]) -> Option<Keyword>
         Some(Keyword::OverflowFlag)
     } else if word == b"mod".as_slice() {
         Some(Keyword::Division)
+    } else if word == b"add".as_slice()
+        || word == b"mul".as_slice()
+        || word == b"and".as_slice()
+        || word == b"xor".as_slice()
+    {
+        Some(Keyword::Kind)
+    } else {
+        other_keyword_of_three(word)
+    }
+}
+
+#[tactic(auto, unfolding(crate::specs::ClassOf::keywords))]
+fn other_keyword_of_three(word: &[u8]) -> Option<Keyword>
+    ensures { result ≡ found_in (drop 9 (of_lengths 3 3 keywords)) word.now }
+{
+    if word == b"slt".as_slice()
+        || word == b"sle".as_slice()
+        || word == b"sgt".as_slice()
+        || word == b"sge".as_slice()
+        || word == b"ult".as_slice()
+        || word == b"ule".as_slice()
+        || word == b"ugt".as_slice()
+        || word == b"uge".as_slice()
+    {
+        Some(Keyword::Predicate)
     } else {
         None
     }
 }
 
 #[tactic(auto, unfolding(crate::specs::ClassOf::keywords))]
-fn middle_keyword(word: &[u8]) -> Option<Keyword>
-    ensures { result ≡ found_in (of_lengths 5 7 keywords) word.now }
+fn keyword_of_four(word: &[u8]) -> Option<Keyword>
+    ensures { result ≡ found_in (of_lengths 4 4 keywords) word.now }
+{
+    if word == b"step".as_slice() {
+        Some(Keyword::Step)
+    } else if word == b"else".as_slice() {
+        Some(Keyword::Else)
+    } else if word == b"into".as_slice() {
+        Some(Keyword::Into)
+    } else if word == b"from".as_slice() {
+        Some(Keyword::From)
+    } else if word == b"true".as_slice() {
+        Some(Keyword::Bool)
+    } else {
+        None
+    }
+}
+
+#[tactic(auto, unfolding(crate::specs::ClassOf::keywords))]
+fn keyword_of_five(word: &[u8]) -> Option<Keyword>
+    ensures { result ≡ found_in (of_lengths 5 5 keywords) word.now }
+{
+    if word == b"array".as_slice() {
+        Some(Keyword::Array)
+    } else if word == b"dense".as_slice() {
+        Some(Keyword::Dense)
+    } else if word == b"false".as_slice() {
+        Some(Keyword::Bool)
+    } else if word == b"minsi".as_slice()
+        || word == b"minui".as_slice()
+        || word == b"maxsi".as_slice()
+        || word == b"maxui".as_slice()
+    {
+        Some(Keyword::Kind)
+    } else {
+        None
+    }
+}
+
+#[tactic(auto, unfolding(crate::specs::ClassOf::keywords))]
+fn keyword_of_six(word: &[u8]) -> Option<Keyword>
+    ensures { result ≡ found_in (of_lengths 6 6 keywords) word.now }
 {
     if word == b"module".as_slice() {
         Some(Keyword::Module)
     } else if word == b"memref".as_slice() {
         Some(Keyword::MemRef)
+    } else if word == b"vector".as_slice() {
+        Some(Keyword::Vector)
+    } else if word == b"offset".as_slice() {
+        Some(Keyword::Offset)
     } else if word == b"symbol".as_slice() {
         Some(Keyword::Symbol)
     } else if word == b"return".as_slice() {
         Some(Keyword::Terminator)
-    } else if word == b"private".as_slice() || word == b"public".as_slice() {
+    } else if word == b"public".as_slice() {
         Some(Keyword::Visibility)
-    } else if word == b"ceildiv".as_slice() {
-        Some(Keyword::Division)
     } else {
         None
     }
 }
 
 #[tactic(auto, unfolding(crate::specs::ClassOf::keywords))]
-fn long_keyword(word: &[u8]) -> Option<Keyword>
-    ensures { result ≡ found_in (of_lengths 8 9 keywords) word.now }
+fn keyword_to_nine(word: &[u8]) -> Option<Keyword>
+    ensures { result ≡ found_in (of_lengths 7 9 keywords) word.now }
 {
     if word == b"func.func".as_slice() {
         Some(Keyword::FuncFunc)
+    } else if word == b"affine.if".as_slice() {
+        Some(Keyword::AffineIf)
+    } else if word == b"scf.for".as_slice() {
+        Some(Keyword::ScfFor)
+    } else if word == b"strided".as_slice() {
+        Some(Keyword::Strided)
     } else if word == b"overflow".as_slice() {
         Some(Keyword::Overflow)
     } else if word == b"iter_args".as_slice() {
         Some(Keyword::IterArgs)
     } else if word == b"scf.yield".as_slice() {
         Some(Keyword::Terminator)
-    } else if word == b"floordiv".as_slice() {
+    } else if word == b"arith.ori".as_slice() {
+        Some(Keyword::Binary)
+    } else if word == b"private".as_slice() {
+        Some(Keyword::Visibility)
+    } else if word == b"floordiv".as_slice() || word == b"ceildiv".as_slice() {
         Some(Keyword::Division)
     } else {
         None
@@ -136,40 +230,151 @@ fn long_keyword(word: &[u8]) -> Option<Keyword>
 }
 
 #[tactic(auto, unfolding(crate::specs::ClassOf::keywords))]
-fn longer_keyword(word: &[u8]) -> Option<Keyword>
+fn keyword_of_ten(word: &[u8]) -> Option<Keyword>
     ensures { result ≡ found_in (of_lengths 10 10 keywords) word.now }
 {
-    if word == b"affine.for".as_slice() {
+    if word == b"arith.cmpi".as_slice() {
+        Some(Keyword::ArithCmpi)
+    } else if word == b"affine.for".as_slice() {
         Some(Keyword::AffineFor)
+    } else if word == b"memref.dim".as_slice() {
+        Some(Keyword::MemRefDim)
     } else if word == b"affine_map".as_slice() {
         Some(Keyword::AffineMap)
+    } else if word == b"affine_set".as_slice() {
+        Some(Keyword::AffineSet)
     } else if word == b"attributes".as_slice() {
         Some(Keyword::Attributes)
-    } else if word == b"arith.addi".as_slice()
+    } else {
+        other_keyword_of_ten(word)
+    }
+}
+
+#[tactic(auto, unfolding(crate::specs::ClassOf::keywords))]
+fn other_keyword_of_ten(word: &[u8]) -> Option<Keyword>
+    ensures { result ≡ found_in (drop 6 (of_lengths 10 10 keywords)) word.now }
+{
+    if word == b"arith.addi".as_slice()
         || word == b"arith.subi".as_slice()
         || word == b"arith.muli".as_slice()
         || word == b"arith.shli".as_slice()
     {
         Some(Keyword::Overflowing)
+    } else if word == b"arith.andi".as_slice() || word == b"arith.xori".as_slice() {
+        Some(Keyword::Binary)
+    } else if word == b"affine.min".as_slice() || word == b"affine.max".as_slice() {
+        Some(Keyword::MapOp)
     } else {
         None
     }
 }
 
 #[tactic(auto, unfolding(crate::specs::ClassOf::keywords))]
-fn longest_keyword(word: &[u8]) -> Option<Keyword>
-    ensures { result ≡ found_in (of_lengths 11 14 keywords) word.now }
+fn keyword_of_eleven(word: &[u8]) -> Option<Keyword>
+    ensures { result ≡ found_in (of_lengths 11 11 keywords) word.now }
+{
+    if word == b"affine.load".as_slice() {
+        Some(Keyword::AffineLoad)
+    } else if word == b"memref.load".as_slice() {
+        Some(Keyword::MemRefLoad)
+    } else if word == b"vector.load".as_slice() {
+        Some(Keyword::VectorLoad)
+    } else if word == b"vector.step".as_slice() {
+        Some(Keyword::VectorStep)
+    } else if word == b"func.return".as_slice() {
+        Some(Keyword::Terminator)
+    } else {
+        other_keyword_of_eleven(word)
+    }
+}
+
+#[tactic(auto, unfolding(crate::specs::ClassOf::keywords))]
+fn other_keyword_of_eleven(word: &[u8]) -> Option<Keyword>
+    ensures { result ≡ found_in (drop 5 (of_lengths 11 11 keywords)) word.now }
+{
+    if word == b"arith.divsi".as_slice()
+        || word == b"arith.divui".as_slice()
+        || word == b"arith.remsi".as_slice()
+        || word == b"arith.remui".as_slice()
+        || word == b"arith.shrsi".as_slice()
+        || word == b"arith.shrui".as_slice()
+        || word == b"arith.minsi".as_slice()
+        || word == b"arith.minui".as_slice()
+        || word == b"arith.maxsi".as_slice()
+        || word == b"arith.maxui".as_slice()
+    {
+        Some(Keyword::Binary)
+    } else if word == b"arith.extsi".as_slice() || word == b"arith.extui".as_slice() {
+        Some(Keyword::Cast)
+    } else {
+        None
+    }
+}
+
+#[tactic(auto, unfolding(crate::specs::ClassOf::keywords))]
+fn keyword_to_thirteen(word: &[u8]) -> Option<Keyword>
+    ensures { result ≡ found_in (of_lengths 12 13 keywords) word.now }
+{
+    if word == b"arith.select".as_slice() {
+        Some(Keyword::ArithSelect)
+    } else if word == b"affine.store".as_slice() {
+        Some(Keyword::AffineStore)
+    } else if word == b"memref.store".as_slice() {
+        Some(Keyword::MemRefStore)
+    } else if word == b"vector.store".as_slice() {
+        Some(Keyword::VectorStore)
+    } else if word == b"vector.insert".as_slice() {
+        Some(Keyword::VectorInsert)
+    } else if word == b"vector.vscale".as_slice() {
+        Some(Keyword::VectorVscale)
+    } else if word == b"function_type".as_slice() {
+        Some(Keyword::FunctionType)
+    } else if word == b"affine.yield".as_slice() {
+        Some(Keyword::Terminator)
+    } else if word == b"arith.trunci".as_slice() {
+        Some(Keyword::Cast)
+    } else if word == b"affine.apply".as_slice() {
+        Some(Keyword::MapOp)
+    } else {
+        None
+    }
+}
+
+#[tactic(auto, unfolding(crate::specs::ClassOf::keywords))]
+fn keyword_to_fifteen(word: &[u8]) -> Option<Keyword>
+    ensures { result ≡ found_in (of_lengths 14 15 keywords) word.now }
 {
     if word == b"arith.constant".as_slice() {
         Some(Keyword::ArithConstant)
-    } else if word == b"affine.load".as_slice() {
-        Some(Keyword::AffineLoad)
-    } else if word == b"affine.store".as_slice() {
-        Some(Keyword::AffineStore)
-    } else if word == b"function_type".as_slice() {
-        Some(Keyword::FunctionType)
-    } else if word == b"func.return".as_slice() || word == b"affine.yield".as_slice() {
-        Some(Keyword::Terminator)
+    } else if word == b"vector.extract".as_slice() {
+        Some(Keyword::VectorExtract)
+    } else if word == b"vector.shuffle".as_slice() {
+        Some(Keyword::VectorShuffle)
+    } else if word == b"arith.ceildivsi".as_slice() || word == b"arith.ceildivui".as_slice() {
+        Some(Keyword::Binary)
+    } else {
+        None
+    }
+}
+
+#[tactic(auto, unfolding(crate::specs::ClassOf::keywords))]
+fn keyword_to_eighteen(word: &[u8]) -> Option<Keyword>
+    ensures { result ≡ found_in (of_lengths 16 18 keywords) word.now }
+{
+    if word == b"vector.maskedload".as_slice() {
+        Some(Keyword::VectorMaskedLoad)
+    } else if word == b"vector.maskedstore".as_slice() {
+        Some(Keyword::VectorMaskedStore)
+    } else if word == b"vector.broadcast".as_slice() {
+        Some(Keyword::VectorBroadcast)
+    } else if word == b"vector.create_mask".as_slice() {
+        Some(Keyword::VectorCreateMask)
+    } else if word == b"vector.reduction".as_slice() {
+        Some(Keyword::VectorReduction)
+    } else if word == b"arith.floordivsi".as_slice() {
+        Some(Keyword::Binary)
+    } else if word == b"arith.index_cast".as_slice() || word == b"arith.index_castui".as_slice() {
+        Some(Keyword::Cast)
     } else {
         None
     }
@@ -213,6 +418,18 @@ fn class_of_hash(spelling: &[u8]) -> Class
             }
         }
         [] => Class::HashOther,
+    }
+}
+
+fn class_of_quoted(spelling: &[u8]) -> Class
+    ensures { result ≡ the_class_of_quoted spelling.now }
+{
+    if spelling == b"\"builtin.module\"".as_slice() {
+        Class::QuotedModule
+    } else if spelling == b"\"func.func\"".as_slice() {
+        Class::QuotedFunc
+    } else {
+        Class::Quoted
     }
 }
 

@@ -10,7 +10,7 @@ ghost use Rattle.av_derive.specs.State.{Expanded, Fits, Shifted, Stands, StandsF
 use av_tree::table::{
     FileName, Name, Rule, Symbol, begins_expression, choose, counts_sign, fits, need, symbols,
 };
-use av_tree::{Bracket, Class, bracket_of};
+use av_tree::{Bracket, Class, bracket_of, class_number};
 use std::alloc::{AllocError, AllocFailed, Global};
 
 /// The greatest numbers of brackets that are open at once, and of signs and words of calculation in
@@ -207,8 +207,8 @@ impl Machine {
         ensures plain { IfErr result (λ stop. stop ≡ Stop.Wrong → Fits symbol class → (self.old.counted ≡ false) × (bracket_of_class class ≢ Bracket.Opens) × (self.old.over ≡ true)) }
     {
         let (fitting, spelled) = match symbol {
-            Symbol::Sign(sign) => (class == Class::Sign(sign), false),
-            Symbol::Word(word) => (class == Class::Word(word), false),
+            Symbol::Sign(sign) => (is_same(class, Class::Sign(sign)), false),
+            Symbol::Word(word) => (is_same(class, Class::Word(word)), false),
             Symbol::Token(test) => (fits(test, class), true),
             Symbol::Rows(_) => (false, false),
         };
@@ -233,6 +233,14 @@ impl Machine {
         }
         Ok(())
     }
+}
+
+// Whether two classes are the same. Their numbers tell, in the place of all pairs of words.
+fn is_same(left: Class, right: Class) -> bool
+    ensures same { result ≡ true → left ≡ right }
+    ensures other { result ≡ false → left ≢ right }
+{
+    class_number(left) == class_number(right)
 }
 
 // The class of the token of number `at`, or of the end.

@@ -1,5 +1,5 @@
 -- The operations of a loop that are read again are those of its lines.
-use Rattle.std.proofs.Common.{◌≡◌, ◌∙◌, ℕ, ◌<◌, ◌^◌, Bool, true, false, List, [], ◌∷◌, ◌++◌, append-nil, Some, None, map, length, drop, refl, ap, sym, subst}
+use Rattle.std.proofs.Common.{◌≡◌, ◌∙◌, ℕ, ◌<◌, ◌^◌, Bool, true, false, List, [], ◌∷◌, ◌++◌, append-nil, Some, map, length, drop, refl, ap, sym, subst}
 use Rattle.std.specs.Prelude.{not, ◌&&◌, ◌==◌, Option, is_some, unwrap_or, slice_get, codes}
 use Rattle.std.specs.Option.{option_and_then, option_map_or}
 use Rattle.std.specs.Cmp.Lexicographic.{pointwise}
@@ -20,6 +20,8 @@ use Rattle.av_tree.specs.declared.attribute.Named.{Named}
 use Rattle.av_tree.specs.declared.node.Body.{Body}
 use Rattle.av_tree.specs.declared.node.Node.{Node, Node-F, out-Node, roll-Node, out-roll-Node}
 use Rattle.av_tree.specs.declared.written.TypeText.{TypeText}
+use Rattle.av_printer.specs.declared.form.Form.{Form}
+use Rattle.av_printer.specs.declared.form.Form.TheVariants as forms
 use Rattle.av_totree.specs.Names.{operation_name}
 use Rattle.av_totree.specs.Types.{type_of}
 use Rattle.av_verify.specs.Parts.{MapUse, Dimension, Plain, Scope, Load, Store}
@@ -39,7 +41,7 @@ use Rattle.av_plain.specs.Modules.{value, op, subscript_map, subscript_values, a
 use Rattle.av_plain.specs.WrittenTrees.{constant_node}
 use Rattle.av_plain.specs.WrittenTrees as written
 use Rattle.av_plain.specs.ReadTrees as read
-use Rattle.av_plain.specs.ReadTrees.{node, unwritten, line_node}
+use Rattle.av_plain.specs.ReadTrees.{node, if_generic, subscript_types, line_node}
 use Rattle.av_plain.specs.Sound.{IsAmong, Stands, IsPattern, IsSoundSubscript, IsSoundLine, visible_after}
 use Rattle.av_plain.proofs.AgainNames.{one_named, used_itself}
 use Rattle.av_plain.proofs.AgainRules.{AllHold, all_checked, both_true, some_there, two_there, small_mark, pattern_fits, pattern_again}
@@ -78,6 +80,11 @@ read_regions name place operands in_types results out_types properties marks reg
   out_types = out_types;
 }))
 
+-- a type that a form may leave out agrees as it does where it is written
+agrees_if_generic : (form : Form) (w : Option TypeText) (t : Ty) → agrees w t ≡ true → agrees (if_generic form w) t ≡ true
+agrees_if_generic forms.Named w t h = refl
+agrees_if_generic forms.Generic w t h = h
+
 pub none_here : (regions : List Body) → regions ≡ [] → (length regions == 0) ≡ true
 none_here regions is = ap (λ (l : List Body). length l == 0) is
 
@@ -93,7 +100,7 @@ pub record IsSmall (place : Place) : Type 0 where
 pub counted_here : (scope : Scope) (visible : List ℕ) (place : Place) → Fits scope visible place → length scope.owners ≡ place.number
 counted_here scope visible place h = ap length h.owners ∙ length-replicate place.number 0
 
-module _ (loop : ℕ → Scope → Node → Outcome (Step Op)) (scope : Scope) (visible : List ℕ) (place : Place) (h : Fits scope visible place) (small : IsSmall place) where
+module _ (form : Form) (loop : ℕ → Scope → Node → Outcome (Step Op)) (scope : Scope) (visible : List ℕ) (place : Place) (h : Fits scope visible place) (small : IsSmall place) where
   abbrev S : Scope
   S = numbered scope
 
@@ -153,7 +160,7 @@ module _ (loop : ℕ → Scope → Node → Outcome (Step Op)) (scope : Scope) (
 
   module _ (counter left right : ℕ) (elem : Elem) (first : Stands visible place left (ty.Scalar elem)) (second : Stands visible place right (ty.Scalar elem)) where
     abbrev sum_node : Node
-    sum_node = line_node counter (sum left right) place
+    sum_node = line_node form counter (sum left right) place
 
     abbrev sum_values : List ValueId
     sum_values = value left ∷ value right ∷ []
@@ -205,7 +212,8 @@ module _ (loop : ℕ → Scope → Node → Outcome (Step Op)) (scope : Scope) (
         ∙ ap (λ v. step (op_of place.number (ArithBinary Addi) sum_values (v ∷ []) [] no_marks) (defined S name (type_at place left) Plain)) next_is
 
   -- ---- accesses, in the loop of a variable
-  module _ (counter : ℕ) (role : slice_get scope.roles counter ≡ Some Dimension) (among : IsAmong visible counter) (at : Subscript) (sound : IsSoundSubscript at) where
+  module _ (counter : ℕ) (role : slice_get scope.roles counter ≡ Some Dimension) (counts : slice_get scope.values counter ≡ Some (ty.Scalar Index))
+      (among : IsAmong visible counter) (at : Subscript) (sound : IsSoundSubscript at) where
     abbrev used_names : List (List ℕ)
     used_names = map (name_at place) (subscript_values counter at)
 
@@ -236,15 +244,24 @@ module _ (loop : ℕ → Scope → Node → Outcome (Step Op)) (scope : Scope) (
         by (plus z) = alone
         by (minus z) = alone
 
-    used_typed : pointwise (agrees_at scope.values) (unwritten (subscript_values counter at)) used_values ≡ true
+    counter_typed : type_at place counter ≡ ty.Scalar Index
+    counter_typed =
+        ap (λ o. unwrap_or o (ty.Scalar Index))
+        (sym (slice_get-get_or place.types counter (ty.Scalar Index) (h.each counter among).0) ∙ ap (λ (l : List Ty). slice_get l counter) (sym h.values) ∙ counts)
+
+    abbrev used_types : List (Option TypeText)
+    used_types = subscript_types form place (subscript_values counter at)
+
+    used_typed : pointwise (agrees_at scope.values) used_types used_values ≡ true
     used_typed = by at
       where
-        alone : pointwise (agrees_at scope.values) (unwritten (counter ∷ [])) (value counter ∷ []) ≡ true
+        alone : pointwise (agrees_at scope.values) (subscript_types form place (counter ∷ [])) (value counter ∷ []) ≡ true
         alone =
-            ap (λ (l : List Ty). option_map_or (agrees None) (slice_get l counter) false && true) h.values
-            ∙ ap (λ o. option_map_or (agrees None) o false && true) (slice_get-get_or place.types counter (ty.Scalar Index) (h.each counter among).0)
+            ap (λ o. option_map_or (agrees (if_generic form (read.written place counter))) o false && true) counts
+            ∙ ap (λ b. b && true)
+            (agrees_if_generic form (read.written place counter) (ty.Scalar Index) (ap (λ t. agrees (Some (type_of t)) (ty.Scalar Index)) counter_typed))
 
-        by : (at : Subscript) → pointwise (agrees_at scope.values) (unwritten (subscript_values counter at)) (map value (subscript_values counter at)) ≡ true
+        by : (at : Subscript) → pointwise (agrees_at scope.values) (subscript_types form place (subscript_values counter at)) (map value (subscript_values counter at)) ≡ true
         by (fixed z) = refl
         by variable = alone
         by (plus z) = alone
@@ -259,7 +276,7 @@ module _ (loop : ℕ → Scope → Node → Outcome (Step Op)) (scope : Scope) (
     -- ---- loads
     module _ (from size : ℕ) (first : Stands visible place from (buffer size)) where
       abbrev load_node : Node
-      load_node = line_node counter (load from at) place
+      load_node = line_node form counter (load from at) place
 
       abbrev load_values : List ValueId
       load_values = value from ∷ used_values
@@ -272,10 +289,16 @@ module _ (loop : ℕ → Scope → Node → Outcome (Step Op)) (scope : Scope) (
       load_typed : slice_get scope.values from ≡ Some (buffer size)
       load_typed = typed_here scope visible place h from (buffer size) first
 
+      abbrev element_text : Option TypeText
+      element_text = if_generic form (Some (type_of element))
+
       abbrev load_test : Option Ty → Option TypeText → Bool
       load_test o w =
-          is_buffer o && only_agrees (ty.Scalar (elem_of_buffer o)) (None ∷ [])
-          && (option_map_or (agrees w) o false && pointwise (agrees_at scope.values) (unwritten (subscript_values counter at)) used_values)
+          is_buffer o && only_agrees (ty.Scalar (elem_of_buffer o)) (element_text ∷ [])
+          && (option_map_or (agrees w) o false && pointwise (agrees_at scope.values) used_types used_values)
+
+      abbrev from_test : Bool
+      from_test = agrees (Some (type_of (buffer size))) (buffer size)
 
       load_types : load_agrees scope.values load_node (operands_of S load_node) ≡ true
       unfolding line_node node out-Node roll-Node denote.Hole.Carrier.out denote.Hole.Carrier.roll
@@ -283,15 +306,16 @@ module _ (loop : ℕ → Scope → Node → Outcome (Step Op)) (scope : Scope) (
           ap (load_agrees scope.values load_node) load_operands
           ∙ ap (λ t. load_test (slice_get scope.values from) (Some (type_of t))) first.2
           ∙ ap (λ o. load_test o (Some (type_of (buffer size)))) load_typed
-          ∙ ap (λ b. (b && true) && pointwise (agrees_at scope.values) (unwritten (subscript_values counter at)) used_values) (eq-eqb size size refl)
+          ∙ ap (λ b. b && (from_test && pointwise (agrees_at scope.values) used_types used_values)) (agrees_if_generic form (Some (type_of element)) element refl)
+          ∙ ap (λ b. (b && true) && pointwise (agrees_at scope.values) used_types used_values) (eq-eqb size size refl)
           ∙ used_typed
 
       load_hold : AllHold (load_rules S load_node)
       unfolding line_node node out-Node roll-Node denote.Hole.Carrier.out denote.Hole.Carrier.roll
       load_hold =
           let plain = none_here (out-Node load_node).regions
-          (read_regions (codes "affine.load") place (from ∷ subscript_values counter at) (read.written place from ∷ unwritten (subscript_values counter at))
-          (written.next_name place) (None ∷ []) access_entries access_marks []) in
+          (read_regions (codes "affine.load") place (from ∷ subscript_values counter at) (read.written place from ∷ used_types)
+          (written.next_name place) (element_text ∷ []) access_entries access_marks []) in
           let m = Some (written.subscript_map at) in (
             some_there (name_at place from) used_names,
             (
@@ -355,7 +379,7 @@ module _ (loop : ℕ → Scope → Node → Outcome (Step Op)) (scope : Scope) (
     -- ---- stores
     module _ (stored into size : ℕ) (first : Stands visible place stored element) (second : Stands visible place into (buffer size)) where
       abbrev store_node : Node
-      store_node = line_node counter (store stored into at) place
+      store_node = line_node form counter (store stored into at) place
 
       abbrev store_values : List ValueId
       store_values = value stored ∷ value into ∷ used_values
@@ -373,11 +397,20 @@ module _ (loop : ℕ → Scope → Node → Outcome (Step Op)) (scope : Scope) (
       into_typed : slice_get scope.values into ≡ Some (buffer size)
       into_typed = typed_here scope visible place h into (buffer size) second
 
+      abbrev stored_text : Option TypeText
+      stored_text = if_generic form (read.written place stored)
+
       abbrev store_test : Option Ty → Option Ty → Option TypeText → Bool
       store_test s b w =
           is_buffer b && option_map_or (is_elem (elem_of_buffer b)) (option_and_then scalar_of s) false && true
-          && (option_map_or (agrees None) s false
-          && (option_map_or (agrees w) b false && pointwise (agrees_at scope.values) (unwritten (subscript_values counter at)) used_values))
+          && (option_map_or (agrees stored_text) s false
+          && (option_map_or (agrees w) b false && pointwise (agrees_at scope.values) used_types used_values))
+
+      abbrev into_test : Bool
+      into_test = agrees (Some (type_of (buffer size))) (buffer size)
+
+      stored_agrees : agrees stored_text element ≡ true
+      stored_agrees = agrees_if_generic form (read.written place stored) element (ap (λ t. agrees (Some (type_of t)) element) first.2)
 
       store_types : store_agrees scope.values store_node (operands_of S store_node) ≡ true
       unfolding line_node node out-Node roll-Node denote.Hole.Carrier.out denote.Hole.Carrier.roll
@@ -386,7 +419,8 @@ module _ (loop : ℕ → Scope → Node → Outcome (Step Op)) (scope : Scope) (
           ∙ ap (λ t. store_test (slice_get scope.values stored) (slice_get scope.values into) (Some (type_of t))) second.2
           ∙ ap (λ s. store_test s (slice_get scope.values into) (Some (type_of (buffer size)))) stored_typed
           ∙ ap (λ b. store_test (Some element) b (Some (type_of (buffer size)))) into_typed
-          ∙ ap (λ b. (b && true) && pointwise (agrees_at scope.values) (unwritten (subscript_values counter at)) used_values) (eq-eqb size size refl)
+          ∙ ap (λ b. b && (into_test && pointwise (agrees_at scope.values) used_types used_values)) stored_agrees
+          ∙ ap (λ b. (b && true) && pointwise (agrees_at scope.values) used_types used_values) (eq-eqb size size refl)
           ∙ used_typed
 
       store_visible : are_visible scope.names (name_at place stored ∷ name_at place into ∷ used_names) ≡ true
@@ -400,7 +434,7 @@ module _ (loop : ℕ → Scope → Node → Outcome (Step Op)) (scope : Scope) (
       store_hold =
           let plain = none_here (out-Node store_node).regions
           (read_regions (codes "affine.store") place (stored ∷ into ∷ subscript_values counter at)
-          (None ∷ read.written place into ∷ unwritten (subscript_values counter at)) [] [] access_entries access_marks []) in
+          (stored_text ∷ read.written place into ∷ used_types) [] [] access_entries access_marks []) in
           let m = Some (written.subscript_map at) in (
             two_there (name_at place stored) (name_at place into) used_names,
             (
@@ -452,24 +486,25 @@ module _ (loop : ℕ → Scope → Node → Outcome (Step Op)) (scope : Scope) (
 
 -- ---- lines
 -- the node of a line gives its operation, and the scope behind it fits the place behind it
-pub record IsLine (loop : ℕ → Scope → Node → Outcome (Step Op)) (counter : ℕ) (scope : Scope) (visible : List ℕ) (place : Place) (line : Line) : Type 0 where
+pub record IsLine (form : Form) (loop : ℕ → Scope → Node → Outcome (Step Op)) (counter : ℕ) (scope : Scope) (visible : List ℕ) (place : Place) (line : Line) : Type 0 where
   pub after : Scope
-  pub gives : (is_last : Bool) → operation_with loop is_last scope (line_node counter line place) ≡ step (line_op counter line place) after
+  pub gives : (is_last : Bool) → operation_with loop is_last scope (line_node form counter line place) ≡ step (line_op counter line place) after
   pub fits : Fits after (visible_after line place visible) (after_line line place)
   pub role : slice_get after.roles counter ≡ Some Dimension
+  pub counts : slice_get after.values counter ≡ Some (ty.Scalar Index)
   pub more : List Binding
   pub longer : after.names ≡ scope.names ++ more
   pub among : IsAmong (visible_after line place visible) counter
 
-module _ (loop : ℕ → Scope → Node → Outcome (Step Op)) (counter : ℕ) (scope : Scope) (visible : List ℕ) (place : Place) (h : Fits scope visible place) (small : IsSmall place)
-    (role : slice_get scope.roles counter ≡ Some Dimension) (among : IsAmong visible counter) where
+module _ (form : Form) (loop : ℕ → Scope → Node → Outcome (Step Op)) (counter : ℕ) (scope : Scope) (visible : List ℕ) (place : Place) (h : Fits scope visible place) (small : IsSmall place)
+    (role : slice_get scope.roles counter ≡ Some Dimension) (counts : slice_get scope.values counter ≡ Some (ty.Scalar Index)) (among : IsAmong visible counter) where
   fresh_here : is_visible scope.names (operation_name place.operations) ≡ false
   fresh_here = operation_new scope visible place h small.arguments small.operations
 
   result_line : (line : Line) (t : Ty) → after_line line place ≡ with_result t place → visible_after line place visible ≡ visible ++ next place ∷ []
-      → ((is_last : Bool) → operation_with loop is_last scope (line_node counter line place)
+      → ((is_last : Bool) → operation_with loop is_last scope (line_node form counter line place)
       ≡ step (line_op counter line place) (defined (numbered scope) (operation_name place.operations) t Plain))
-      → IsLine loop counter scope visible place line
+      → IsLine form loop counter scope visible place line
   result_line line t after seen gives = record {
     after = defined (numbered scope) (operation_name place.operations) t Plain;
     gives = gives;
@@ -478,24 +513,26 @@ module _ (loop : ℕ → Scope → Node → Outcome (Step Op)) (counter : ℕ) (
         (subst (λ (l : List ℕ). Fits (defined (numbered scope) (operation_name place.operations) t Plain) l (with_result t place)) (sym seen)
         (fits_result scope visible place h t Plain fresh_here));
     role = get_before scope.roles (Plain ∷ []) counter Dimension role;
+    counts = get_before scope.values (t ∷ []) counter (ty.Scalar Index) counts;
     more = binds (operation_name place.operations) (value (next place)) ∷ [];
     longer = names_with scope visible place h (operation_name place.operations) fresh_here;
     among = subst (λ (l : List ℕ). IsAmong l counter) (sym seen) (among_before visible (next place ∷ []) counter among);
   }
 
-  pub line_again : (line : Line) → IsSoundLine visible place line → IsLine loop counter scope visible place line
+  pub line_again : (line : Line) → IsSoundLine visible place line → IsLine form loop counter scope visible place line
   unfolding line_op line_node after_line IsSoundLine
   line_again (constant pattern) sound =
-      result_line (constant pattern) element refl refl (λ is_last. constant_again loop scope visible place h small is_last pattern sound)
+      result_line (constant pattern) element refl refl (λ is_last. constant_again form loop scope visible place h small is_last pattern sound)
   line_again (sum left right) sound =
-      result_line (sum left right) (type_at place left) refl refl (sum_again loop scope visible place h small counter left right sound.0 sound.1 sound.2)
+      result_line (sum left right) (type_at place left) refl refl (sum_again form loop scope visible place h small counter left right sound.0 sound.1 sound.2)
   line_again (load from at) sound =
-      result_line (load from at) element refl refl (load_again loop scope visible place h small counter role among at sound.1 from sound.0.0 sound.0.1)
+      result_line (load from at) element refl refl (load_again form loop scope visible place h small counter role counts among at sound.1 from sound.0.0 sound.0.1)
   line_again (store stored into at) sound = record {
     after = numbered scope;
-    gives = store_again loop scope visible place h small counter role among at sound.2 stored into sound.1.0 sound.0 sound.1.1;
+    gives = store_again form loop scope visible place h small counter role counts among at sound.2 stored into sound.1.0 sound.0 sound.1.1;
     fits = fits_passed scope visible place h;
     role = role;
+    counts = counts;
     more = [];
     longer = sym (append-nil scope.names);
     among = among;

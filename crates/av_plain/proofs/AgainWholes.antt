@@ -24,6 +24,7 @@ use Rattle.av_tree.specs.declared.written.TypeText.{TypeText, TypeText-F, out-Ty
 use Rattle.av_tree.specs.declared.written.TypeText.TheOpen as open_text
 use Rattle.av_tree.specs.declared.written.TypeText.TheVariants as text
 use Rattle.av_tree.specs.declared.written.TypeText.TheVariants.{rolls-Func}
+use Rattle.av_printer.specs.declared.form.Form.{Form}
 use Rattle.av_totree.specs.Names.{argument_name}
 use Rattle.av_totree.specs.Types.{type_of}
 use Rattle.av_verify.specs.declared.module.Mode.TheVariants.{Run}
@@ -155,12 +156,12 @@ first_fits = record {
 }
 
 -- ---- the function
-module _ (p : Program) (sound : IsSound p) (narrow : length p.sizes < 2 ^ 64) where
+module _ (form : Form) (p : Program) (sound : IsSound p) (narrow : length p.sizes < 2 ^ 64) where
   abbrev entry_scope : Scope
   entry_scope = numbered (numbered first_scope)
 
   abbrev nodes : List Node
-  nodes = step_nodes p.steps (body_place p)
+  nodes = step_nodes form p.steps (body_place p)
 
   abbrev layer : Body-F Body Node
   layer = record { args = arguments 0 p.sizes; nodes = nodes }
@@ -169,7 +170,7 @@ module _ (p : Program) (sound : IsSound p) (narrow : length p.sizes < 2 ^ 64) wh
   body = roll-Body layer
 
   abbrev function : Node
-  function = function_node p
+  function = function_node form p
 
   abbrev inputs : List TypeText
   inputs = map (λ size. type_of (buffer size)) p.sizes
@@ -212,7 +213,7 @@ module _ (p : Program) (sound : IsSound p) (narrow : length p.sizes < 2 ^ 64) wh
   end_hold =
       ap (end_with (codes "func.return")) regions_are
       ∙ ap (λ (b : Body-F Body Node). is_last (ends_as (codes "func.return")) b.nodes && true) body_out
-      ∙ ap (λ b. b && true) (last_step p.steps (body_place p))
+      ∙ ap (λ b. b && true) (last_step form p.steps (body_place p))
 
   limits_hold : are_within_limits function ≡ true
   limits_hold =
@@ -262,8 +263,8 @@ module _ (p : Program) (sound : IsSound p) (narrow : length p.sizes < 2 ^ 64) wh
   start_fits =
       buffers_again p.sizes entry_scope [] first_place first_fits (small_before (body_place p) (last_place p) (before_steps p.steps (body_place p)) small) sound.sizes
 
-  inner : AreSteps 37 start (body_place p) p.steps
-  inner = steps_again 37 p.steps start (range_with_len 0 (length p.sizes)) (body_place p) start_fits small sound.steps
+  inner : AreSteps form 37 start (body_place p) p.steps
+  inner = steps_again form 37 p.steps start (range_with_len 0 (length p.sizes)) (body_place p) start_fits small sound.steps
 
   abbrev after : Scope
   after = closed entry_scope inner.after
@@ -288,7 +289,7 @@ module _ (p : Program) (sound : IsSound p) (narrow : length p.sizes < 2 ^ 64) wh
 
   -- ---- the module
   abbrev root : Node
-  root = (read_tree p).root
+  root = (read_tree form p).root
 
   abbrev module_layer : Body-F Body Node
   module_layer = record { args = []; nodes = function ∷ [] }
@@ -319,7 +320,7 @@ module _ (p : Program) (sound : IsSound p) (narrow : length p.sizes < 2 ^ 64) wh
     ),
   )
 
-  pub module_again : elaborated (read_tree p) Run ≡ gives (module_of p)
+  pub module_again : elaborated (read_tree form p) Run ≡ gives (module_of p)
   unfolding elaborated walk.module_of passed
   module_again =
       all_checked 0 (module_rules root Run) (walk.module_of Run (only_function root)) module_hold
@@ -327,6 +328,6 @@ module _ (p : Program) (sound : IsSound p) (narrow : length p.sizes < 2 ^ 64) wh
       ∙ ap (λ (o : Outcome (Step Func)). walk.next o (λ s. let m : Module = record { funcs = s.given ∷ []; owners = s.scope.owners } in gives m)) function_again
       ∙ ap (λ (owners : List ℕ). let m : Module = record { funcs = func_of p ∷ []; owners = owners } in gives m) inner.fits.owners
 
--- the tree as which a sound program is read again gives its module
+-- the tree as which a sound program is read again, in either form, gives its module
 pub read_again : ReadLaw
-read_again p sound narrow = module_again p sound narrow
+read_again form p sound narrow = module_again form p sound narrow

@@ -131,7 +131,7 @@ module _ (loop : ℕ → Scope → Node → Outcome (Step Op)) (is_last : Bool) 
     constant_lined is =
         step_taken Lined (length scope.owners) (first_failing (constant_rules (numbered scope) node)) _ _ s
         (constant_taken counter scope visible place (length scope.owners) h refl node is)
-        (row_given loop is_last scope node s given (codes "arith.constant") Constant (both _ _ (both _ _ (both _ _ is).0).0).0 refl)
+        (row_given loop is_last scope node s given (codes "arith.constant") Constant (both _ _ (both _ _ is).0).0 refl)
 
     sum_lined : is_bare (codes "arith.addi") node ≡ true → IsLined counter scope s.scope visible place s.given
     unfolding known_with

@@ -359,7 +359,7 @@ loop_taken (suc room) scope visible place number node s h plain counted_here giv
 
 named_loop : (node : Node) → is_plain_loop node ≡ true → is_named (codes "affine.for") node ≡ true
 unfolding is_plain_loop
-named_loop node p = (both _ _ (both _ _ (both _ _ (both _ _ (both _ _ (both _ _ (both _ _ (both _ _ p).0).0).0).0).0).0).0).0
+named_loop node p = (both _ _ (both _ _ (both _ _ (both _ _ (both _ _ (both _ _ (both _ _ p).0).0).0).0).0).0).0
 
 -- ---- constants
 module _ (scope : Scope) (visible : List ℕ) (place : Place) (h : Matches scope visible place) (node : Node) (number : ℕ) (counted_here : number ≡ length scope.owners) where
@@ -389,7 +389,7 @@ module _ (room : ℕ) (is_last : Bool) (scope : Scope) (visible : List ℕ) (pla
       (λ none.
       let c = constant_is 0 scope visible place (length scope.owners) h refl node is none in
       constant_step scope visible place h node (length scope.owners) refl (result_name node) (constant_elem node) Plain (constant_pattern node) c.fresh c.typed c.below)
-      (row_given (loop_of room) is_last scope node s given (codes "arith.constant") Constant (both _ _ (both _ _ (both _ _ is).0).0).0 refl)
+      (row_given (loop_of room) is_last scope node s given (codes "arith.constant") Constant (both _ _ (both _ _ is).0).0 refl)
 
   loop_op_taken : is_plain_loop node ≡ true → IsTaken scope s.scope visible place node s.given
   unfolding known_with

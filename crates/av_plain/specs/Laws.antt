@@ -5,6 +5,7 @@ use Rattle.av_ir.specs.Marks.{marked_of}
 use Rattle.av_shapes.specs.declared.Shape.{Shape}
 use Rattle.av_shapes.specs.Places.{lanes}
 use Rattle.av_tree.specs.declared.node.Tree.{Tree}
+use Rattle.av_printer.specs.declared.form.Form.{Form}
 use Rattle.av_totree.specs.Trees.{tree_of}
 use Rattle.av_verify.specs.declared.module.Mode.TheVariants.{Scalar, Run}
 use Rattle.av_verify.specs.Elaboration.{elaborated, gives}
@@ -19,9 +20,9 @@ use Rattle.av_plain.specs.Sound.{IsSound}
 abbrev pub WrittenLaw : Type 0
 WrittenLaw = (p : Program) → IsSound p → tree_of (module_of p) ≡ written_tree p
 
--- the tree as which a sound program is read again is its module; names of buffers differ where these are fewer than 2 ^ 64
+-- the tree as which a sound program is read again, in either form, is its module; names of buffers differ where these are fewer than 2 ^ 64
 abbrev pub ReadLaw : Type 0
-ReadLaw = (p : Program) → IsSound p → length p.sizes < 2 ^ 64 → elaborated (read_tree p) Run ≡ gives (module_of p)
+ReadLaw = (form : Form) (p : Program) → IsSound p → length p.sizes < 2 ^ 64 → elaborated (read_tree form p) Run ≡ gives (module_of p)
 
 -- a module is that of a sound program, but for its marks
 pub record IsProgram (m : Module) : Type 0 where

@@ -6,7 +6,7 @@ pub fn written_law()
     ensures { WrittenLaw }
 {}
 
-/// The tree as which the text of a sound program is read again is elaborated to its module.
+/// The tree as which the text of a sound program is read again, in either form, is elaborated to its module.
 pub fn read_law()
     ensures { ReadLaw }
 {}

@@ -5,3 +5,4 @@ pub mod AttributeSteps
 pub mod DictionarySteps
 pub mod OperationSteps
 pub mod NodeSteps
+pub mod PartSteps

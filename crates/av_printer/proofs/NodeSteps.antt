@@ -1,5 +1,6 @@
 -- The spelling of operations and regions, one level at a time.
-use Rattle.std.proofs.Common.{◌≡◌, ℕ, ◌+◌, ◌<◌, true, false, cond, List, [], ◌∷◌, ◌++◌, length, map, Some, None, refl, sym, ap, ◌∙◌, codes, arith}
+use Rattle.std.proofs.Common.{◌≡◌, ℕ, zero, suc, ◌+◌, ◌<◌, ◌≤◌, ◌&&◌, true, false, cond, List, [], ◌∷◌, ◌++◌, length, get_or, drop, map, Some, None, refl, sym, ap, ◌∙◌, codes, arith}
+use Rattle.std.proofs.lemmas.List.{drop_all}
 use Rattle.av_lex.specs.declared.token.Kind.TheVariants as kinds
 use Rattle.av_lex.specs.declared.token.Sign.TheVariants.{OpenCurly, CloseCurly, Colon, Equal}
 use Rattle.av_tree.specs.declared.node.BodyArg.{BodyArg}
@@ -8,10 +9,11 @@ use Rattle.av_tree.specs.declared.node.Body.{Body, fold_out-Body, out-Body}
 use Rattle.av_printer.specs.declared.form.Form.{Form}
 use Rattle.av_printer.specs.declared.form.Form.TheVariants as forms
 use Rattle.av_printer.specs.declared.named.NamedForm.{NamedForm}
-use Rattle.av_printer.specs.Pieces.{Piece, space, token, sign, spaced, commas, joined, new_line, in_round}
+use Rattle.av_printer.specs.Pieces.{Piece, space, token, sign, plain, spaced, commas, joined, new_line, in_round}
 use Rattle.av_printer.specs.Expressions.{result_name}
-use Rattle.av_printer.specs.Operations.{first_of, head_of, own_line, own_end, common_line, common_end, results_before, arguments_pieces}
-use Rattle.av_printer.specs.Spelling.{Operation, Region, is_yield, is_silent, on_line, left_out, region_step, own_region, label, common_region, common_regions, form_of, by_form, operation_step, operation_of, region_of, node_line, own_body, common_body}
+use Rattle.av_printer.specs.Operations.{first_of, head_of, common_line, common_end, results_before, arguments_pieces}
+use Rattle.av_printer.specs.OwnForms.{own_line, own_end}
+use Rattle.av_printer.specs.Spelling.{Operation, Region, is_yield, is_silent, on_line, left_out, all_silent, region_step, own_region, else_region, own_regions, label, common_region, common_regions, form_of, by_form, operation_step, operation_of, region_of, node_line, own_body, else_body, own_bodies, common_body}
 
 -- ---- one level
 args-of : (b : Body) → (region_of b).args ≡ (out-Body b).args
@@ -44,15 +46,19 @@ whole-of n form depth =
     ∙ ap (λ args. results_before (out-Node n).results ++ by_form (form_of form (out-Node n).name) (record (head_of n) { arguments = args }) (map region_of (out-Node n).regions) depth)
     (all-args (out-Node n).regions)
 
+bodies-own : (depth : ℕ) (bs : List Body) → own_regions depth (map region_of bs) ≡ own_bodies depth bs
+bodies-own depth [] = refl
+bodies-own depth (b ∷ bs) = ap (λ rs. own_body depth b ∷ rs) (mapped_twice region_of (else_region depth) bs)
+
 pub whole-own : (n : Node) (form : Form) (depth : ℕ) (named : NamedForm) → form_of form (out-Node n).name ≡ Some named
     → (operation_of n).whole form depth ≡ results_before (out-Node n).results
-    ++ (own_line named (head_of n) ++ joined (map (own_body depth) (out-Node n).regions) ++ own_end named (head_of n))
+    ++ (own_line named (head_of n) ++ joined (own_bodies depth (out-Node n).regions) ++ own_end named (head_of n))
 unfolding by_form
 whole-own n form depth named e =
     whole-of n form depth
     ∙ ap (λ f. results_before (out-Node n).results ++ by_form f (head_of n) (map region_of (out-Node n).regions) depth) e
     ∙ ap (λ rs. results_before (out-Node n).results ++ (own_line named (head_of n) ++ joined rs ++ own_end named (head_of n)))
-    (mapped_twice region_of (own_region depth) (out-Node n).regions)
+    (bodies-own depth (out-Node n).regions)
 
 pub whole-common : (n : Node) (form : Form) (depth : ℕ) → form_of form (out-Node n).name ≡ None
     → (operation_of n).whole form depth ≡ results_before (out-Node n).results
@@ -65,6 +71,58 @@ whole-common n form depth e =
     (mapped_twice region_of (common_region depth) (out-Node n).regions)
 
 -- ---- regions
+pub region-silent : (b : Body) → (region_of b).silent ≡ all_silent (map operation_of (out-Body b).nodes)
+unfolding region_of operation_of
+region-silent b = ap (λ (r : Region). r.silent) (fold_out-Body Region Operation region_step operation_step b)
+
+pub silent-found : (ns : List Node) (n : Node) (i : ℕ) → i < length ns → n ≡ get_or ns i n → false ≡ is_silent (out-Node n).name (out-Node n).operands
+    → all_silent (map operation_of (drop i ns)) ≡ false
+unfolding all_silent
+silent-found [] n i h e f = absurd (omega arith)
+silent-found (x ∷ ns) n zero h e f = ap (λ b. b && all_silent (map operation_of ns)) (ap (λ y. (operation_of y).silent) (sym e) ∙ silent-of n ∙ sym f)
+silent-found (x ∷ ns) n (suc i) h e f = silent-found ns n i (omega arith) e f
+
+silent-next : (ns : List Node) (n : Node) (i : ℕ) → i < length ns → n ≡ get_or ns i n → true ≡ is_silent (out-Node n).name (out-Node n).operands
+    → all_silent (map operation_of (drop i ns)) ≡ all_silent (map operation_of (drop (suc i) ns))
+unfolding all_silent
+silent-next [] n i h e t = absurd (omega arith)
+silent-next (x ∷ ns) n zero h e t = ap (λ b. b && all_silent (map operation_of ns)) (ap (λ y. (operation_of y).silent) (sym e) ∙ silent-of n ∙ sym t)
+silent-next (x ∷ ns) n (suc i) h e t = silent-next ns n i (omega arith) e t
+
+one_more : (i : ℕ) → i + 1 ≡ suc i
+one_more i = omega arith
+
+pub silent-on : (ns : List Node) (n : Node) (i : ℕ) → i < length ns → n ≡ get_or ns i n → true ≡ is_silent (out-Node n).name (out-Node n).operands
+    → all_silent (map operation_of (drop (i + 1) ns)) ≡ all_silent (map operation_of (drop i ns))
+silent-on ns n i h e t = ap (λ k. all_silent (map operation_of (drop k ns))) (one_more i) ∙ sym (silent-next ns n i h e t)
+
+pub silent-end : (ns : List Node) (i : ℕ) → length ns ≤ i → all_silent (map operation_of (drop i ns)) ≡ true
+unfolding all_silent
+silent-end ns i h = ap (λ rest. all_silent (map operation_of rest)) (drop_all i ns h)
+
+pub bodies-none : (depth : ℕ) (bs : List Body) → length bs ≡ 0 → joined (own_bodies depth bs) ≡ []
+unfolding joined
+bodies-none depth [] h = refl
+bodies-none depth (b ∷ bs) h = absurd (omega arith)
+
+pub bodies-some : (depth : ℕ) (bs : List Body) (b : Body) → 1 ≤ length bs → b ≡ get_or bs 0 b
+    → joined (own_bodies depth bs) ≡ own_body depth b ++ joined (map (else_body depth) (drop 1 bs))
+unfolding joined
+bodies-some depth [] b h e = absurd (omega arith)
+bodies-some depth (x ∷ bs) b h e = ap (λ y. own_body depth y ++ joined (map (else_body depth) bs)) (sym e)
+
+pub else-none : (depth : ℕ) (b : Body) → true ≡ (region_of b).silent → else_body depth b ≡ []
+unfolding else_region
+else-none depth b e = ap (λ t. cond t [] (space ++ plain (codes "else") ++ own_body depth b)) (sym e)
+
+pub else-some : (depth : ℕ) (b : Body) → false ≡ (region_of b).silent → else_body depth b ≡ space ++ plain (codes "else") ++ own_body depth b
+unfolding else_region
+else-some depth b e = ap (λ t. cond t [] (space ++ plain (codes "else") ++ own_body depth b)) (sym e)
+
+pub ruleset branch_steps = (bodies-none, bodies-some, else-none, else-some)
+
+pub ruleset region_silent_steps = (region-silent, silent-found, silent-on, silent-end)
+
 pub own-of : (depth : ℕ) (b : Body) → own_region depth (region_of b)
     ≡ space ++ sign OpenCurly ++ joined (map (node_line forms.Named (depth + 1)) (out-Body b).nodes) ++ new_line depth ++ sign CloseCurly
 unfolding own_region

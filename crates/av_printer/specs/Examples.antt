@@ -1,7 +1,5 @@
 -- Spellings of small expressions and a type, worked out by hand.
-use Rattle.std.specs.Prelude.{◌≡◌, List, ℕ, negsuc, [], ◌∷◌, ◌++◌, codes}
-use Rattle.av_tree.specs.declared.written.TypeText.{MemRef}
-use Rattle.av_tree.specs.declared.written.SizeText.TheVariants.{Dynamic}
+use Rattle.std.specs.Prelude.{◌≡◌, List, ℕ, negsuc, ◌++◌, codes}
 use Rattle.av_tree.specs.declared.written.ExprText.{Name, Neg, Add, Sub, Mul}
 use Rattle.av_printer.specs.Pieces.{spelt, plain}
 use Rattle.av_printer.specs.Expressions.{number, expression}

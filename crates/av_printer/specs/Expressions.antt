@@ -128,10 +128,19 @@ dim_values m operands = take (length m.dims) operands
 abbrev pub sym_values : MapText → List (List ℕ) → List (List ℕ)
 sym_values m operands = drop (length m.dims) operands
 
+-- `(%a)[%b]`: operands, of which the first so many are those of dimensions
+abbrev pub operands_pieces : ℕ → List (List ℕ) → List Piece
+operands_pieces dims operands = in_round (commas (map value (take dims operands))) ++ square_if_any (map value (drop dims operands))
+
 -- `affine_map<(d0)[s0] -> (d0 + s0)>(%a)[%b]`
 unfoldable pub map_use : MapText → List (List ℕ) → List Piece
 map_use m operands =
     map_pieces m ++ in_round (commas (map value (dim_values m operands))) ++ square_if_any (map value (sym_values m operands))
+
+-- `affine_set<(d0)[s0] : (d0 - s0 >= 0)>(%a)[%b]`
+unfoldable pub set_use : SetText → List (List ℕ) → List Piece
+set_use s operands =
+    set_pieces s ++ in_round (commas (map value (take (length s.dims) operands))) ++ square_if_any (map value (drop (length s.dims) operands))
 
 -- `[%a, %b + 1, symbol(%c)]`
 unfoldable pub subscripts : MapText → List (List ℕ) → List Piece

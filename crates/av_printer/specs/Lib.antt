@@ -4,6 +4,8 @@ pub mod Expressions
 pub mod Attributes
 pub mod Dictionaries
 pub mod Operations
+pub mod Patterns
+pub mod OwnForms
 pub mod Examples
 pub mod Spelling
 pub mod Printing

@@ -9,18 +9,20 @@ use Rattle.av_tree.specs.declared.node.Tree.{Tree}
 use Rattle.av_printer.specs.declared.form.Form.{Form}
 use Rattle.av_printer.specs.declared.form.Form.TheVariants as forms
 use Rattle.av_printer.specs.declared.named.NamedForm.{NamedForm}
-use Rattle.av_printer.specs.Pieces.{Piece, spelt, space, token, sign, commas, joined, new_line, in_round}
+use Rattle.av_printer.specs.Pieces.{Piece, spelt, space, token, sign, plain, commas, joined, new_line, in_round}
 use Rattle.av_printer.specs.Expressions.{same}
-use Rattle.av_printer.specs.Operations.{Head, first_of, own_form, own_line, own_end, common_line, common_end, results_before, arguments_pieces}
+use Rattle.av_printer.specs.Operations.{Head, first_of, common_line, common_end, results_before, arguments_pieces}
+use Rattle.av_printer.specs.OwnForms.{own_form, own_line, own_end}
 
 -- an operation in a form at a depth, and whether its own form leaves it out: a yield without values
 pub record Operation : Type 0 where
   pub silent : Bool
   pub whole : Form → ℕ → List Piece
 
--- the arguments of a region, and the lines of its operations in a form at a depth
+-- the arguments of a region, whether their own forms leave all of its operations out, and the lines of these in a form at a depth
 pub record Region : Type 0 where
   pub args : List BodyArg
+  pub silent : Bool
   pub lines : Form → ℕ → List Piece
 
 unfoldable pub is_yield : List ℕ → Bool
@@ -41,12 +43,25 @@ left_out forms.Generic op = false
 unfoldable pub on_line : Form → ℕ → Operation → List Piece
 on_line form depth op = if left_out form op then [] else new_line depth ++ op.whole form depth
 
+unfoldable pub all_silent : List Operation → Bool
+all_silent [] = true
+all_silent (op ∷ ops) = op.silent && all_silent ops
+
 abbrev pub region_step : Body-F Region Operation → Region
-region_step b = record { args = b.args; lines = λ form depth. joined (map (on_line form depth) b.nodes) }
+region_step b = record { args = b.args; silent = all_silent b.nodes; lines = λ form depth. joined (map (on_line form depth) b.nodes) }
 
 -- ` {`, the lines, and `}`
 unfoldable pub own_region : ℕ → Region → List Piece
 own_region depth r = space ++ sign OpenCurly ++ r.lines forms.Named (depth + 1) ++ new_line depth ++ sign CloseCurly
+
+-- ` else {`, the lines, and `}`; nothing where there is no line
+unfoldable pub else_region : ℕ → Region → List Piece
+else_region depth r = if r.silent then [] else space ++ plain (codes "else") ++ own_region depth r
+
+-- a region behind the first stands behind `else`
+abbrev pub own_regions : ℕ → List Region → List (List Piece)
+own_regions depth [] = []
+own_regions depth (first ∷ others) = own_region depth first ∷ map (else_region depth) others
 
 -- `^bb0(%arg0: i32):` where the region has arguments
 unfoldable pub label : ℕ → List BodyArg → List Piece
@@ -66,7 +81,7 @@ form_of forms.Named name = own_form name
 form_of forms.Generic name = None
 
 unfoldable pub by_form : Option NamedForm → Head → List Region → ℕ → List Piece
-by_form (Some form) h regions depth = own_line form h ++ joined (map (own_region depth) regions) ++ own_end form h
+by_form (Some form) h regions depth = own_line form h ++ joined (own_regions depth regions) ++ own_end form h
 by_form None h regions depth = common_line h ++ common_regions (map (common_region depth) regions) ++ common_end h
 
 abbrev pub whole_of : Form → Head → List Region → ℕ → List Piece
@@ -99,6 +114,13 @@ node_line form depth node = on_line form depth (operation_of node)
 
 abbrev pub own_body : ℕ → Body → List Piece
 own_body depth body = own_region depth (region_of body)
+
+abbrev pub else_body : ℕ → Body → List Piece
+else_body depth body = else_region depth (region_of body)
+
+abbrev pub own_bodies : ℕ → List Body → List (List Piece)
+own_bodies depth [] = []
+own_bodies depth (first ∷ others) = own_body depth first ∷ map (else_body depth) others
 
 abbrev pub common_body : ℕ → Body → List Piece
 common_body depth body = common_region depth (region_of body)

@@ -1,15 +1,16 @@
 //! Loads and stores.
-ghost use Rattle.std.specs.Prelude.{◌≡◌, ◌++◌, drop, option_copied, IfOk};
+ghost use Rattle.std.specs.Prelude.{◌≡◌, ◌++◌, option_copied, IfOk};
 ghost use Rattle.av_printer.specs.Pieces.{spelt};
 ghost use Rattle.av_printer.specs.Operations.{head_of, subscripts_if_any, buffer, access, load_line, stored_value, store_line};
 
 use crate::entries::{map_of, property};
 use crate::generic::print_marks;
 use crate::lines::print_first_type;
+use crate::slices::behind;
 use crate::subscripts::print_subscripts;
 use crate::writer::Writer;
 use av_affine::Text;
-use av_tree::{MapText, Node, TypeText};
+use av_tree::{MapText, Node};
 use std::alloc::AllocError;
 
 #[tactic(auto, using(crate::proofs::Steps::steps), unfolding(crate::specs::Operations::load_line))]
@@ -28,8 +29,8 @@ pub(crate) fn print_store(out: &mut Writer, node: &Node) -> Result<(), AllocErro
 {
     out.push_bytes(b"affine.store ")?;
     print_stored(out, node.operands.as_slice())?;
-    print_access(out, node, texts_behind(node.operands.as_slice()))?;
-    print_first_type(out, types_behind(node.in_types.as_slice()))?;
+    print_access(out, node, behind(node.operands.as_slice(), 1))?;
+    print_first_type(out, behind(node.in_types.as_slice(), 1))?;
     Ok(())
 }
 
@@ -69,7 +70,7 @@ fn print_buffer(
     match operands {
         [first, ..] => {
             out.push_text(first)?;
-            print_subscripts_of(out, map, texts_behind(operands))?;
+            print_subscripts_of(out, map, behind(operands, 1))?;
         }
         [] => {}
     }
@@ -89,23 +90,4 @@ fn print_subscripts_of(
         None => {}
     }
     Ok(())
-}
-
-// All but the first.
-fn texts_behind(texts: &[Text]) -> &[Text]
-    ensures { result.now ≡ drop 1 texts.now }
-{
-    match texts {
-        [_, others @ ..] => others,
-        [] => &[],
-    }
-}
-
-fn types_behind(types: &[Option<TypeText>]) -> &[Option<TypeText>]
-    ensures { result.now ≡ drop 1 types.now }
-{
-    match types {
-        [_, others @ ..] => others,
-        [] => &[],
-    }
 }

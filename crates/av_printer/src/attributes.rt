@@ -1,6 +1,7 @@
 //! Attributes and dictionaries.
 ghost use Rattle.std.specs.Prelude.{◌≡◌, ◌++◌, map, is_none, IfOk};
 ghost use Rattle.av_printer.specs.Pieces.{spelt, sign, token, commas, in_square, in_curly};
+ghost use Rattle.av_printer.specs.Expressions.{number};
 ghost use Rattle.av_printer.specs.Attributes.{attr_of, attribute, entry_pieces, element_pieces, typed, truth, numbers_behind, quoted, hashed, array_of, dense_of};
 
 use crate::expressions::{print_map, print_set, print_texts};
@@ -155,10 +156,18 @@ fn print_array(out: &mut Writer, elem: &TypeText, numbers: &[i128]) -> Result<()
 fn print_numbers(out: &mut Writer, numbers: &[i128]) -> Result<(), AllocError>
     ensures { IfOk result (λ _. out.new ≡ out.old ++ spelt (numbers_behind numbers.now)) }
 {
-    if numbers.is_empty() {
-        return Ok(());
+    if !numbers.is_empty() {
+        out.push_bytes(b": ")?;
+        print_integers(out, numbers)?;
     }
-    out.push_bytes(b": ")?;
+    Ok(())
+}
+
+/// Numbers between commas.
+#[tactic(auto, using(crate::proofs::Steps::steps, crate::proofs::AttributeSteps::number_steps))]
+pub(crate) fn print_integers(out: &mut Writer, numbers: &[i128]) -> Result<(), AllocError>
+    ensures { IfOk result (λ _. out.new ≡ out.old ++ spelt (commas (map number numbers.now))) }
+{
     for (i, number) in numbers.iter().enumerate() {
         out.push_comma_after(i)?;
         out.push_number(*number)?;

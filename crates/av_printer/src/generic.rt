@@ -83,9 +83,12 @@ fn print_signature(
     Ok(())
 }
 
-// The types of results: one alone without brackets.
+/// The types of results: one alone without brackets.
 #[tactic(auto, using(crate::proofs::Steps::steps, crate::proofs::TypeSteps::type_steps), unfolding(crate::specs::Operations::known_results, crate::specs::Operations::known_in_round, crate::specs::Operations::known_types))]
-fn print_known_results(out: &mut Writer, types: &[Option<TypeText>]) -> Result<(), AllocError>
+pub(crate) fn print_known_results(
+    out: &mut Writer,
+    types: &[Option<TypeText>],
+) -> Result<(), AllocError>
     ensures { IfOk result (λ _. out.new ≡ out.old ++ spelt (known_results types.now)) }
 {
     match types {
@@ -120,7 +123,7 @@ pub(crate) fn print_values(out: &mut Writer, values: &[Text]) -> Result<(), Allo
 }
 
 #[tactic(auto, using(crate::proofs::Steps::steps), unfolding(crate::specs::Operations::values_in_round))]
-fn print_values_in_round(out: &mut Writer, values: &[Text]) -> Result<(), AllocError>
+pub(crate) fn print_values_in_round(out: &mut Writer, values: &[Text]) -> Result<(), AllocError>
     ensures { IfOk result (λ _. out.new ≡ out.old ++ spelt (values_in_round values.now)) }
 {
     out.push_bytes(b"(")?;

@@ -17,7 +17,11 @@ mod lines;
 mod loops;
 mod named;
 mod nodes;
+mod parts;
+mod pattern;
 mod printing;
+mod properties;
+mod slices;
 mod subscripts;
 mod types;
 mod writer;
@@ -26,6 +30,7 @@ pub use form::Form;
 pub use laws::worked_examples;
 pub use named::NamedForm;
 pub use nodes::spell;
+pub use pattern::{Item, Lead, Pattern};
 pub use printing::{PrintFault, print};
 
 #[cfg(test)]

@@ -29,9 +29,9 @@ pub(crate) fn print_yield(out: &mut Writer, node: &Node) -> Result<(), AllocErro
     Ok(())
 }
 
-// The values with their types, where there are some.
+/// The values with their types, where there are some.
 #[tactic(auto, using(crate::proofs::Steps::steps, crate::proofs::OperationSteps::behind_steps, crate::proofs::Steps::signs_between))]
-fn print_values_behind(
+pub(crate) fn print_values_behind(
     out: &mut Writer,
     values: &[Text],
     types: &[Option<TypeText>],

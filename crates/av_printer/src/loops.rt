@@ -5,6 +5,7 @@ ghost use Rattle.av_printer.specs.Operations.{head_of, step_of, variable, loop_s
 
 use crate::entries::{arguments, map_of, property};
 use crate::generic::print_known_in_round;
+use crate::slices::behind;
 use crate::subscripts::print_bound;
 use crate::writer::Writer;
 use av_affine::Text;
@@ -66,7 +67,7 @@ fn print_loop_start(out: &mut Writer, args: &[BodyArg]) -> Result<(), AllocError
 }
 
 #[tactic(auto, using(crate::proofs::Steps::steps, crate::proofs::OperationSteps::behind_steps))]
-fn print_variable(out: &mut Writer, args: &[BodyArg]) -> Result<(), AllocError>
+pub(crate) fn print_variable(out: &mut Writer, args: &[BodyArg]) -> Result<(), AllocError>
     ensures { IfOk result (λ _. out.new ≡ out.old ++ spelt (variable args.now)) }
 {
     match args {
@@ -139,9 +140,9 @@ fn print_step(out: &mut Writer, step: i128) -> Result<(), AllocError>
     Ok(())
 }
 
-// The carried arguments with their initial values, and their types.
+/// The carried arguments with their initial values, and their types.
 #[tactic(auto, using(crate::proofs::Steps::steps, crate::proofs::OperationSteps::behind_steps, crate::proofs::Steps::signs_between))]
-fn print_carried(
+pub(crate) fn print_carried(
     out: &mut Writer,
     args: &[BodyArg],
     initial: &[Text],
@@ -151,7 +152,7 @@ fn print_carried(
 {
     if !initial.is_empty() {
         out.push_bytes(b" iter_args")?;
-        print_carried_args(out, arguments_behind(args), initial)?;
+        print_carried_args(out, behind(args, 1), initial)?;
         out.push_bytes(b" -> ")?;
         print_known_in_round(out, types)?;
     }
@@ -180,13 +181,4 @@ fn print_carried_arg(out: &mut Writer, arg: &BodyArg, value: &Text) -> Result<()
     out.push_bytes(b" = ")?;
     out.push_text(value)?;
     Ok(())
-}
-
-fn arguments_behind(args: &[BodyArg]) -> &[BodyArg]
-    ensures { result.now ≡ drop 1 args.now }
-{
-    match args {
-        [_, others @ ..] => others,
-        [] => &[],
-    }
 }

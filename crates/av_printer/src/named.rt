@@ -1,19 +1,22 @@
 //! The forms that operations have of their own.
 ghost use Rattle.std.specs.Prelude.{◌≡◌, ◌++◌, IfOk};
 ghost use Rattle.av_printer.specs.Pieces.{spelt};
-ghost use Rattle.av_printer.specs.Operations.{head_of, own_line, own_end, is_sum, is_division, is_logic, is_choice, is_binary, arith_form, own_form};
+ghost use Rattle.av_printer.specs.Operations.{head_of};
+ghost use Rattle.av_printer.specs.OwnForms.{own_line, own_end, is_sum, is_division, is_logic, is_choice, is_binary, pattern_form, arith_form, own_form};
 
 use crate::accesses::{print_load, print_store};
 use crate::functions::print_function;
 use crate::generic::print_marks;
 use crate::lines::{print_binary, print_constant, print_return, print_yield};
 use crate::loops::print_loop;
+use crate::parts::{close_pattern, open_pattern};
+use crate::pattern::{Pattern, pattern_of};
 use crate::writer::Writer;
 use av_tree::Node;
 use std::alloc::AllocError;
 
 /// An operation's own form.
-#[derive(Clone, Copy, Debug, Drop, PartialEq, Eq)]
+#[derive(Clone, Copy, Debug, Drop)]
 pub enum NamedForm {
     Module,
     Function,
@@ -24,10 +27,12 @@ pub enum NamedForm {
     Yield,
     Load,
     Store,
+    /// The name and parts behind it.
+    Pattern(Pattern),
 }
 
 /// The form of the operation of this name, if it has one.
-#[tactic(auto, unfolding(crate::specs::Operations::own_form))]
+#[tactic(auto, unfolding(crate::specs::OwnForms::own_form))]
 pub(crate) fn named_form(name: &[u8]) -> Option<NamedForm>
     ensures { result ≡ own_form name.now }
 {
@@ -50,7 +55,7 @@ pub(crate) fn named_form(name: &[u8]) -> Option<NamedForm>
     }
 }
 
-#[tactic(auto, unfolding(crate::specs::Operations::arith_form))]
+#[tactic(auto, unfolding(crate::specs::OwnForms::arith_form))]
 fn arith_form(name: &[u8]) -> Option<NamedForm>
     ensures { result ≡ arith_form name.now }
 {
@@ -59,11 +64,21 @@ fn arith_form(name: &[u8]) -> Option<NamedForm>
     } else if is_binary(name) {
         Some(NamedForm::Binary)
     } else {
-        None
+        pattern_form(name)
     }
 }
 
-#[tactic(auto, unfolding(crate::specs::Operations::is_binary))]
+#[tactic(auto, unfolding(crate::specs::OwnForms::pattern_form))]
+fn pattern_form(name: &[u8]) -> Option<NamedForm>
+    ensures { result ≡ pattern_form name.now }
+{
+    match pattern_of(name) {
+        Some(pattern) => Some(NamedForm::Pattern(pattern)),
+        None => None,
+    }
+}
+
+#[tactic(auto, unfolding(crate::specs::OwnForms::is_binary))]
 fn is_binary(name: &[u8]) -> bool
     ensures { result ≡ is_binary name.now }
 {
@@ -110,7 +125,7 @@ fn is_choice(name: &[u8]) -> bool
         || name == b"arith.maxui".as_slice()
 }
 
-/// What stands before the region, or all of an operation without one.
+/// What stands before the regions, or all of an operation without one.
 pub(crate) fn open_named(out: &mut Writer, node: &Node, named: NamedForm) -> Result<(), AllocError>
     ensures { IfOk result (λ _. out.new ≡ out.old ++ spelt (own_line named (head_of node.now))) }
 {
@@ -124,16 +139,18 @@ pub(crate) fn open_named(out: &mut Writer, node: &Node, named: NamedForm) -> Res
         NamedForm::Yield => print_yield(out, node)?,
         NamedForm::Load => print_load(out, node)?,
         NamedForm::Store => print_store(out, node)?,
+        NamedForm::Pattern(pattern) => open_pattern(out, node, pattern)?,
     }
     Ok(())
 }
 
-/// What stands after the region.
+/// What stands after the regions.
 pub(crate) fn close_named(out: &mut Writer, node: &Node, named: NamedForm) -> Result<(), AllocError>
     ensures { IfOk result (λ _. out.new ≡ out.old ++ spelt (own_end named (head_of node.now))) }
 {
     match named {
         NamedForm::Loop => print_marks(out, node.attrs.as_slice())?,
+        NamedForm::Pattern(pattern) => close_pattern(out, node, pattern)?,
         NamedForm::Module => {}
         NamedForm::Function => {}
         NamedForm::Return => {}

@@ -2,12 +2,13 @@
 ghost use Rattle.std.specs.Prelude.{◌≡◌, ◌++◌, ◌+◌, None, map, IfOk};
 ghost use Rattle.av_printer.specs.Pieces.{spelt, commas, joined};
 ghost use Rattle.av_printer.specs.Operations.{results_before};
-ghost use Rattle.av_printer.specs.Spelling.{operation_of, node_line, own_body, label, common_body, common_regions, left_out, form_of, is_yield, is_silent, pieces_of, spelling};
+ghost use Rattle.av_printer.specs.Spelling.{operation_of, all_silent, node_line, own_body, else_body, own_bodies, label, common_body, common_regions, left_out, form_of, is_yield, is_silent, pieces_of, spelling};
 
 use crate::expressions::print_texts;
 use crate::form::Form;
 use crate::generic::{close_generic, open_generic, print_arguments};
 use crate::named::{NamedForm, close_named, named_form, open_named};
+use crate::slices::behind;
 use crate::writer::Writer;
 use av_affine::Text;
 use av_tree::{Body, BodyArg, Node, Tree};
@@ -71,15 +72,56 @@ fn print_results(out: &mut Writer, results: &[Text]) -> Result<(), AllocError>
     Ok(())
 }
 
-// Regions of an operation in its own form.
+// Regions of an operation in its own form: those behind the first stand behind `else`.
+#[tactic(auto, using(crate::proofs::Steps::steps, crate::proofs::NodeSteps::branch_steps))]
 #[cycle(nodes)]
 fn print_own_regions(out: &mut Writer, regions: &[Body], depth: usize) -> Result<(), AllocError>
-    ensures { IfOk result (λ _. out.new ≡ out.old ++ spelt (joined (map (own_body depth) regions.now))) }
+    ensures { IfOk result (λ _. out.new ≡ out.old ++ spelt (joined (own_bodies depth regions.now))) }
+{
+    match regions {
+        [first, ..] => {
+            print_own_region(out, first, depth)?;
+            print_else_regions(out, behind(regions, 1), depth)?;
+        }
+        [] => {}
+    }
+    Ok(())
+}
+
+#[cycle(nodes)]
+fn print_else_regions(out: &mut Writer, regions: &[Body], depth: usize) -> Result<(), AllocError>
+    ensures { IfOk result (λ _. out.new ≡ out.old ++ spelt (joined (map (else_body depth) regions.now))) }
 {
     for region in regions {
+        print_else_region(out, region, depth)?;
+    }
+    Ok(())
+}
+
+// A region behind `else`, unless no line stands in it.
+#[tactic(auto, using(crate::proofs::Steps::steps, crate::proofs::NodeSteps::branch_steps, crate::proofs::NodeSteps::region_silent_steps))]
+#[cycle(nodes)]
+fn print_else_region(out: &mut Writer, region: &Body, depth: usize) -> Result<(), AllocError>
+    ensures { IfOk result (λ _. out.new ≡ out.old ++ spelt (else_body depth region.now)) }
+{
+    if !are_silent(region.nodes.as_slice()) {
+        out.push_bytes(b" else")?;
         print_own_region(out, region, depth)?;
     }
     Ok(())
+}
+
+// Whether the named form leaves out each of several operations.
+#[tactic(auto, using(crate::proofs::NodeSteps::region_silent_steps))]
+fn are_silent(nodes: &[Node]) -> bool
+    ensures { result ≡ all_silent (map operation_of nodes.now) }
+{
+    for node in nodes {
+        if !is_silent(node.name.as_slice(), node.operands.as_slice()) {
+            return false;
+        }
+    }
+    true
 }
 
 #[tactic(auto, using(crate::proofs::Steps::steps, crate::proofs::NodeSteps::region_steps))]

@@ -1,12 +1,12 @@
 //! Uses of maps: the names of values in the places of parameters.
 ghost use Rattle.std.specs.Prelude.{◌≡◌, [], ◌++◌, map, length, take, drop, option_copied, IfOk};
 ghost use Rattle.av_printer.specs.Pieces.{spelt, commas, in_square};
-ghost use Rattle.av_printer.specs.Expressions.{leaf, lone_symbol, placed, expression, first_value, map_use, constant_bound, named_bound, single_bound, several_bound, bound, subscripts};
+ghost use Rattle.av_printer.specs.Expressions.{leaf, lone_symbol, placed, expression, first_value, operands_pieces, map_use, set_use, constant_bound, named_bound, single_bound, several_bound, bound, subscripts};
 
-use crate::expressions::{print_expression, print_if_any, print_in_round, print_map};
+use crate::expressions::{print_expression, print_if_any, print_in_round, print_map, print_set};
 use crate::writer::Writer;
 use av_affine::Text;
-use av_tree::{ExprText, MapText};
+use av_tree::{ExprText, MapText, SetText};
 use std::alloc::AllocError;
 
 /// What stands in the places of parameters: their values, as far as there are some.
@@ -80,7 +80,7 @@ pub(crate) fn print_subscripts(
 ) -> Result<(), AllocError>
     ensures { IfOk result (λ _. out.new ≡ out.old ++ spelt (subscripts map.now operands.now)) }
 {
-    let (dim_values, sym_values) = split(map, operands);
+    let (dim_values, sym_values) = operands_of(map, operands);
     let leaves = Leaves {
         dims: map.dims.as_slice(),
         dim_values,
@@ -215,7 +215,7 @@ fn is_lone_symbol(dims: &[Text], syms: &[Text], name: &Text) -> bool
 }
 
 #[tactic(auto, using(crate::proofs::Steps::steps, crate::proofs::ExpressionSteps::leaf_steps))]
-fn print_first(out: &mut Writer, values: &[Text]) -> Result<(), AllocError>
+pub(crate) fn print_first(out: &mut Writer, values: &[Text]) -> Result<(), AllocError>
     ensures { IfOk result (λ _. out.new ≡ out.old ++ spelt (first_value values.now)) }
 {
     match values {
@@ -234,18 +234,48 @@ pub(crate) fn print_map_use(
 ) -> Result<(), AllocError>
     ensures { IfOk result (λ _. out.new ≡ out.old ++ spelt (map_use map.now operands.now)) }
 {
-    let (dim_values, sym_values) = split(map, operands);
     print_map(out, map)?;
+    print_operands(out, map.dims.len(), operands)?;
+    Ok(())
+}
+
+/// A set with its operands.
+#[tactic(auto, using(crate::proofs::Steps::steps, crate::proofs::ExpressionSteps::leaf_steps), unfolding(crate::specs::Expressions::set_use))]
+pub(crate) fn print_set_use(
+    out: &mut Writer,
+    set: &SetText,
+    operands: &[Text],
+) -> Result<(), AllocError>
+    ensures { IfOk result (λ _. out.new ≡ out.old ++ spelt (set_use set.now operands.now)) }
+{
+    print_set(out, set)?;
+    print_operands(out, set.dims.len(), operands)?;
+    Ok(())
+}
+
+// Operands, of which the first so many are those of dimensions.
+#[tactic(auto, using(crate::proofs::Steps::steps, crate::proofs::ExpressionSteps::leaf_steps))]
+fn print_operands(out: &mut Writer, dims: usize, operands: &[Text]) -> Result<(), AllocError>
+    ensures { IfOk result (λ _. out.new ≡ out.old ++ spelt (operands_pieces dims operands.now)) }
+{
+    let (dim_values, sym_values) = split(dims, operands);
     print_in_round(out, dim_values)?;
     print_if_any(out, sym_values)?;
     Ok(())
 }
 
-// The operands of the dimensions, and those of the symbols.
-fn split<'a>(map: &MapText, operands: &'a [Text]) -> (&'a [Text], &'a [Text])
+// The operands of a map's dimensions, and those of its symbols.
+fn operands_of<'a>(map: &MapText, operands: &'a [Text]) -> (&'a [Text], &'a [Text])
     ensures dims { result.0.now ≡ take (length map.now.dims) operands.now }
     ensures syms { result.1.now ≡ drop (length map.now.dims) operands.now }
 {
-    let count = map.dims.len().min(operands.len());
-    operands.split_at(count)
+    split(map.dims.len(), operands)
+}
+
+// The operands of so many dimensions, and those of the symbols.
+fn split(dims: usize, operands: &[Text]) -> (&[Text], &[Text])
+    ensures dims { result.0.now ≡ take dims operands.now }
+    ensures syms { result.1.now ≡ drop dims operands.now }
+{
+    operands.split_at(dims.min(operands.len()))
 }

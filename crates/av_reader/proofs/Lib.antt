@@ -1,10 +1,3 @@
-pub mod Digits
-pub mod Chains
-pub mod NodeParts
-pub mod Replacing
-pub mod Exits
-pub mod Numbered
-pub mod Faithful
+pub mod Worked
 pub mod Typed
 pub mod Refusing
-pub mod Worked

@@ -1,6 +1,6 @@
 -- A derivation puts values of its symbols' sorts on the stack.
-use Rattle.std.proofs.Common.{◌≡◌, ℕ, zero, suc, ◌+◌, ◌<◌, ◌≤◌, List, [], ◌∷◌, ◌++◌, Option, Some, None, length, refl, sym, ap, subst, ◌∙◌, arith}
-use Rattle.std.specs.Prelude.{slice_get, IsSome}
+use Rattle.std.proofs.Common.{◌≡◌, ℕ, zero, suc, ◌+◌, ◌<◌, ◌≤◌, List, [], ◌∷◌, ◌++◌, Option, Some, length, refl, sym, ap, subst, ◌∙◌, arith}
+use Rattle.std.specs.Prelude.{slice_get}
 use Rattle.std.specs.Option.{option_map, option_and_then}
 use Rattle.std.proofs.lemmas.List.{append-nil}
 use Rattle.av_lex.specs.declared.token.Token.{Token}
@@ -12,30 +12,31 @@ use Rattle.av_tree.specs.declared.table.Rule.TheVariants as rule
 use Rattle.av_tree.specs.declared.table.Symbol.{Symbol}
 use Rattle.av_tree.specs.declared.table.Symbol.TheVariants as symbol
 use Rattle.av_tree.specs.declared.table.Test.{Test}
-use Rattle.av_tree.specs.declared.table.affine.AffineRule.{AffineRule}
-use Rattle.av_tree.specs.declared.table.affine.AffineRule.TheVariants as affine_rule
 use Rattle.av_tree.specs.Table.{symbols_of, name_of}
-use Rattle.av_tree.specs.rows.AffineRows as affine_rows
 use Rattle.av_derive.specs.declared.machine.Event.{Event}
 use Rattle.av_derive.specs.declared.machine.Event.TheVariants as event
 use Rattle.av_derive.specs.ClassOf.{spelling_of}
 use Rattle.av_derive.specs.Derivation.{Derives, DerivesFile, nothing_left, by_sign, by_word, by_token}
 use Rattle.av_derive.specs.Derivation as derivation
-use Rattle.av_reader.specs.declared.building.value.Value.{Value}
-use Rattle.av_reader.specs.declared.building.value.Value.TheVariants as value
-use Rattle.av_reader.specs.Sorts.{Sort, Of, All, any, on_top, replaced, sort_of, sorts_of, a_tree, a_node, a_nodes, a_onward, a_terminated, a_typed_values, a_arg, a_args, a_text, a_texts, a_number, a_constant, a_type, a_types, a_sizes, a_layout, a_attr, a_entry, a_entries, a_parameters, a_expression, a_expressions, a_parts, a_map_use, a_carried}
-use Rattle.av_reader.specs.Building.{by_event, by_row, place_of, values_of, tree_of, only_tree}
-use Rattle.av_reader.specs.rows.FileRows as files
-use Rattle.av_reader.specs.rows.FunctionRows as functions
-use Rattle.av_reader.specs.rows.RegionRows as regions
-use Rattle.av_reader.specs.rows.TypeRows as types
-use Rattle.av_reader.specs.rows.AttributeRows as attributes
-use Rattle.av_reader.specs.rows.MapRows as maps
-use Rattle.av_reader.specs.rows.ValueRows as values
-use Rattle.av_reader.specs.rows.ArithRows as ariths
-use Rattle.av_reader.specs.rows.AffineRows as affines
-use Rattle.av_reader.specs.rows.SubscriptRows as subscripts
-use Rattle.av_reader.proofs.Replacing.{replaced-end, replaced-top}
+use Rattle.av_values.specs.declared.value.Value.{Value}
+use Rattle.av_values.specs.declared.value.Value.TheVariants as value
+use Rattle.av_values.specs.Sorts.{Sort, Of, All, any, on_top, only_tree, replaced, sort_of, sorts_of, a_tree, a_node, a_nodes, a_onward, a_terminated, a_typed_values, a_arg, a_args, a_text, a_texts, a_number, a_constant, a_type, a_types, a_sizes, a_layout, a_attr, a_entry, a_entries, a_parameters, a_expression, a_expressions, a_parts, a_map_use, a_carried, a_aliases, a_generic, a_body, a_bodies, a_attrs, a_words, a_numbers, a_element, a_elements, a_dense, a_dims, a_size, a_row, a_rows, a_equal, a_selected, a_optional_type}
+use Rattle.av_reader.specs.Building.{by_event, by_row, place_of, values_of, tree_of}
+use Rattle.av_blocks.specs.rows.FileRows as files
+use Rattle.av_blocks.specs.rows.FunctionRows as functions
+use Rattle.av_blocks.specs.rows.RegionRows as regions
+use Rattle.av_blocks.specs.rows.GenericRows as generics
+use Rattle.av_parts.specs.rows.TypeRows as types
+use Rattle.av_parts.specs.rows.AttributeRows as attributes
+use Rattle.av_parts.specs.rows.MapRows as maps
+use Rattle.av_parts.specs.rows.ValueRows as values
+use Rattle.av_operations.specs.rows.ArithRows as ariths
+use Rattle.av_operations.specs.rows.AffineRows as affines
+use Rattle.av_operations.specs.rows.MemRefRows as memrefs
+use Rattle.av_operations.specs.rows.ScfRows as scfs
+use Rattle.av_operations.specs.rows.VectorRows as vectors
+use Rattle.av_parts.specs.rows.SubscriptRows as subscripts
+use Rattle.av_values.proofs.Replacing.{replaced-end, replaced-top}
 use Rattle.av_reader.proofs.Worked.{one-more}
 
 -- the stack with values of these sorts on it, the first of them on top
@@ -70,6 +71,23 @@ top-any a_expressions v under = refl
 top-any a_parts v under = refl
 top-any a_map_use v under = refl
 top-any a_carried v under = refl
+top-any a_aliases v under = refl
+top-any a_generic v under = refl
+top-any a_body v under = refl
+top-any a_bodies v under = refl
+top-any a_attrs v under = refl
+top-any a_words v under = refl
+top-any a_numbers v under = refl
+top-any a_element v under = refl
+top-any a_elements v under = refl
+top-any a_dense v under = refl
+top-any a_dims v under = refl
+top-any a_size v under = refl
+top-any a_row v under = refl
+top-any a_rows v under = refl
+top-any a_equal v under = refl
+top-any a_selected v under = refl
+top-any a_optional_type v under = refl
 
 -- what is made of the values on top takes their place
 replaced-put : (ss : List Sort) (s : Sort) (make : All ss → Option (Of s)) (vs : All ss) (made : Of s) (under : List Value) → make vs ≡ Some made
@@ -84,28 +102,21 @@ pub record Makes (r : Rule) (x : Name) (place : ℕ) (vs : All (sorts_of (symbol
   pub made : Of (sort_of x)
   pub replaces : by_row r place (put (sorts_of (symbols_of r)) vs under) ≡ Some (any (sort_of x) made ∷ under)
 
-some-value : {A : Type 0} (o : Option A) → IsSome o → (v : A) × (o ≡ Some v)
-some-value None h = absurd (cc)
-some-value (Some v) h = (v, refl)
-
-is-made : (r : AffineRule) (place : ℕ) (vs : All (sorts_of (affine_rows.symbols_of r))) → IsSome (affines.made r place vs)
-is-made affine_rule.AffineFor place vs = refl
-is-made affine_rule.AffineLoad place vs = refl
-is-made r place vs = refl
-
 makes : (r : Rule) (place : ℕ) (vs : All (sorts_of (symbols_of r))) (under : List Value) → Makes r (name_of r) place vs under
 makes (rule.File r) place vs under = record { made = files.made r place vs; replaces = replaced-put _ _ _ vs _ under refl }
 makes (rule.Function r) place vs under = record { made = functions.made r place vs; replaces = replaced-put _ _ _ vs _ under refl }
 makes (rule.Region r) place vs under = record { made = regions.made r place vs; replaces = replaced-put _ _ _ vs _ under refl }
+makes (rule.Generic r) place vs under = record { made = generics.made r place vs; replaces = replaced-put _ _ _ vs _ under refl }
 makes (rule.Type r) place vs under = record { made = types.made r vs; replaces = replaced-put _ _ _ vs _ under refl }
 makes (rule.Attribute r) place vs under = record { made = attributes.made r vs; replaces = replaced-put _ _ _ vs _ under refl }
 makes (rule.Map r) place vs under = record { made = maps.made r vs; replaces = replaced-put _ _ _ vs _ under refl }
 makes (rule.Value r) place vs under = record { made = values.made r vs; replaces = replaced-put _ _ _ vs _ under refl }
 makes (rule.Arith r) place vs under = record { made = ariths.made r place vs; replaces = replaced-put _ _ _ vs _ under refl }
-makes (rule.Affine r) place vs under =
-    let some = some-value (affines.made r place vs) (is-made r place vs) in
-    record { made = some.0; replaces = replaced-put _ _ _ vs _ under some.1 }
+makes (rule.Affine r) place vs under = record { made = affines.made r place vs; replaces = replaced-put _ _ _ vs _ under refl }
 makes (rule.Subscript r) place vs under = record { made = subscripts.made r vs; replaces = replaced-put _ _ _ vs _ under refl }
+makes (rule.MemRef r) place vs under = record { made = memrefs.made r place vs; replaces = replaced-put _ _ _ vs _ under refl }
+makes (rule.Scf r) place vs under = record { made = scfs.made r place vs; replaces = replaced-put _ _ _ vs _ under refl }
+makes (rule.Vector r) place vs under = record { made = vectors.made r place vs; replaces = replaced-put _ _ _ vs _ under refl }
 
 makes-name : (r : Rule) (x : Name) (place : ℕ) (vs : All (sorts_of (symbols_of r))) (under : List Value) → name_of r ≡ x → Makes r x place vs under
 makes-name r x place vs under e = subst (λ (y : Name). Makes r y place vs under) e (makes r place vs under)

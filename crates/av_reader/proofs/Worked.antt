@@ -1,18 +1,16 @@
 -- Working events out one by one, from the last to the first.
 use Rattle.std.proofs.Common.{◌≡◌, ℕ, List, [], ◌∷◌, ◌++◌, Option, Some, None, refl, sym, ap, ◌∙◌, append_assoc}
 use Rattle.std.specs.Option.{option_and_then}
-use Rattle.std.specs.Prelude.{Result, Ok, Err, IfErr, OnErr}
+use Rattle.std.specs.Prelude.{Result, Ok, Err, IfErr}
 use Rattle.std.specs.Result.{IsErrAnd}
 use Rattle.std.proofs.lemmas.List.{append-nil}
 use Rattle.av_lex.specs.declared.token.Token.{Token}
-use Rattle.av_tree.specs.declared.node.Tree.{Tree}
 use Rattle.av_derive.specs.declared.machine.Event.{Event}
-use Rattle.av_reader.specs.declared.building.stack.Fault.{Fault}
-use Rattle.av_reader.specs.declared.building.stack.Fault.TheVariants.{Misshapen}
-use Rattle.av_reader.specs.declared.building.value.Value.{Value}
-use Rattle.av_reader.specs.declared.building.value.Value.TheVariants as value
-use Rattle.av_reader.specs.Sorts.{a_tree, on_top}
-use Rattle.av_reader.specs.Building.{by_event, only_tree, tree_of, values_of}
+use Rattle.av_values.specs.declared.stack.Fault.{Fault}
+use Rattle.av_values.specs.declared.stack.Fault.TheVariants.{Misshapen}
+use Rattle.av_values.specs.declared.value.Value.{Value}
+use Rattle.av_values.specs.Sorts.{only_tree}
+use Rattle.av_reader.specs.Building.{by_event, tree_of, values_of}
 
 -- the events that are worked out, and those that are left
 pub record Worked (bytes : List ℕ) (tokens : List Token) (all left : List Event) (values : List Value) : Type 0 where
@@ -54,30 +52,6 @@ pub all-worked : (bytes : List ℕ) (tokens : List Token) (all left : List Event
 all-worked bytes tokens all left values e w =
     let splits : w.done ≡ all = ap (λ (l : List Event). l ++ w.done) (sym e) ∙ w.splits in
     ap (option_and_then only_tree) (ap (values_of bytes tokens) (sym splits) ∙ w.made)
-
-some-same : (a b : Tree × List Value) → Some a ≡ Some b → a ≡ b
-some-same a b e = cc
-
-pub on-top-tree : (values under : List Value) (tree : Tree) → on_top a_tree values ≡ Some (tree, under) → values ≡ value.Tree tree ∷ under
-unfolding on_top
-on-top-tree (value.Tree v ∷ rest) under tree e = ap (λ (p : Tree × List Value). value.Tree p.0 ∷ p.1) (some-same (v, rest) (tree, under) e)
-on-top-tree values under tree e = absurd (cc)
-
-pub no-top-tree : (values : List Value) → on_top a_tree values ≡ None → only_tree values ≡ None
-unfolding on_top
-no-top-tree (value.Tree v ∷ rest) e = absurd (cc)
-no-top-tree values e = refl
-
-pub one-tree : (values under : List Value) (tree : Tree) → on_top a_tree values ≡ Some (tree, under) → under ≡ [] → only_tree values ≡ Some tree
-one-tree values under tree e f = ap only_tree (on-top-tree values under tree e ∙ ap (λ (l : List Value). value.Tree tree ∷ l) f)
-
-pub tree-and-more : (values under more : List Value) (tree : Tree) (next : Value) → on_top a_tree values ≡ Some (tree, under) → under ≡ next ∷ more → only_tree values ≡ None
-tree-and-more values under more tree next e f = ap only_tree (on-top-tree values under tree e ∙ ap (λ (l : List Value). value.Tree tree ∷ l) f)
-
--- a fact that holds anyway holds at a fault
-pub on_fault : (T : Type 0) (r : Result T Fault) (Q : Type 0) → Q → OnErr r Q
-on_fault T (Ok x) Q q = tt
-on_fault T (Err fault) Q q = q
 
 -- a fault that is handed on means what it meant
 pub handed_on : (T : Type 0) (r : Result T Fault) (fault : Fault) (Q : Type 0) → IsErrAnd r (λ e. e ≡ fault) → (fault ≡ Misshapen → Q) → IfErr r (λ e. e ≡ Misshapen → Q)

@@ -1,11 +1,2 @@
-pub mod Sorts
-pub mod Numbers
-pub mod Expressions
-pub mod Nodes
-pub mod Loops
-pub mod rows
-pub mod Accesses
-pub mod Meanings
-pub mod Operations
 pub mod Building
 pub mod Reading

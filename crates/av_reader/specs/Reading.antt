@@ -1,5 +1,5 @@
 -- Which tree a text with its tokens is, and where the first wrong token stands.
-use Rattle.std.specs.Prelude.{ℕ, ◌≡◌, List, length, take, slice_get, Option, Some}
+use Rattle.std.specs.Prelude.{ℕ, ◌≡◌, List, length, take, slice_get, Some}
 use Rattle.std.specs.Option.{option_map_or}
 use Rattle.av_lex.specs.declared.token.Token.{Token}
 use Rattle.av_tree.specs.declared.class.Class.{Class}

@@ -7,25 +7,14 @@
 ghost use Rattle.std.specs.Prelude.{◌≡◌, Some, None, IfErr, IfOk, OnOk};
 ghost use Rattle.av_reader.specs.Building.{by_event, by_row, place_of as the_place_of, tree_of};
 
-mod affine;
-mod attributes;
-mod expressions;
-mod files;
-mod joining;
-mod loops;
-mod numbers;
-mod regions;
-mod stack;
-mod subscripts;
-mod types;
-pub mod value;
-
+use av_blocks::{reduce_file, reduce_function, reduce_generic, reduce_region};
 use av_derive::{Event, spelling_of};
 use av_lex::Token;
+use av_operations::{reduce_affine, reduce_arith, reduce_memref, reduce_scf, reduce_vector};
+use av_parts::{reduce_attribute, reduce_map, reduce_subscript, reduce_type, reduce_value};
 use av_tree::Tree;
 use av_tree::table::Rule;
-pub(crate) use stack::Fault as BuildFault;
-use stack::{Fault, Stack};
+use av_values::stack::{Fault, Stack};
 use std::alloc::Global;
 
 /// The tree that a derivation makes.
@@ -72,15 +61,19 @@ fn reduce(stack: &mut Stack, rule: Rule, place: u32) -> Result<(), Fault>
     ensures misshapen { IfErr result (λ fault. fault ≡ Fault.Misshapen → by_row rule place stack.old ≡ None) }
 {
     match rule {
-        Rule::File(rule) => files::reduce_file(stack, rule, place),
-        Rule::Function(rule) => files::reduce_function(stack, rule, place),
-        Rule::Region(rule) => regions::reduce(stack, rule, place),
-        Rule::Type(rule) => types::reduce(stack, rule),
-        Rule::Attribute(rule) => attributes::reduce(stack, rule),
-        Rule::Map(rule) => expressions::reduce_map(stack, rule),
-        Rule::Value(rule) => attributes::reduce_value(stack, rule),
-        Rule::Arith(rule) => regions::reduce_arith(stack, rule, place),
-        Rule::Affine(rule) => affine::reduce(stack, rule, place),
-        Rule::Subscript(rule) => expressions::reduce_subscript(stack, rule),
+        Rule::File(rule) => reduce_file(stack, rule, place),
+        Rule::Function(rule) => reduce_function(stack, rule, place),
+        Rule::Region(rule) => reduce_region(stack, rule, place),
+        Rule::Generic(rule) => reduce_generic(stack, rule, place),
+        Rule::Type(rule) => reduce_type(stack, rule),
+        Rule::Attribute(rule) => reduce_attribute(stack, rule),
+        Rule::Map(rule) => reduce_map(stack, rule),
+        Rule::Value(rule) => reduce_value(stack, rule),
+        Rule::Arith(rule) => reduce_arith(stack, rule, place),
+        Rule::Affine(rule) => reduce_affine(stack, rule, place),
+        Rule::Subscript(rule) => reduce_subscript(stack, rule),
+        Rule::MemRef(rule) => reduce_memref(stack, rule, place),
+        Rule::Scf(rule) => reduce_scf(stack, rule, place),
+        Rule::Vector(rule) => reduce_vector(stack, rule, place),
     }
 }

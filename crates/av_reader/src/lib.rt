@@ -3,7 +3,7 @@
 //! The tree is made from the rows that derive the tokens, from the last one to the first.
 #![tactic(auto)]
 
-pub mod building;
+mod building;
 mod reading;
 
 pub use reading::{LIMITS, ReadRefusal, read};

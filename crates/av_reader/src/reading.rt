@@ -4,10 +4,11 @@ ghost use Rattle.std.specs.Prelude.{◌≡◌, ◌≢◌, ◌<◌, ◌^◌, leng
 ghost use Rattle.av_tree.specs.declared.node.Tree.{Tree as OneTree};
 ghost use Rattle.av_reader.specs.Reading.{IsRefusal, IsTree, place_at as the_place_at};
 
-use super::building::{BuildFault, build};
+use super::building::build;
 use av_derive::{Limits, Stop, classes_of, derive};
 use av_lex::Token;
 use av_tree::Tree;
+use av_values::stack::Fault;
 use std::alloc::{AllocError, Global};
 use thiserror::Error;
 
@@ -65,8 +66,8 @@ pub fn read(alloc: Global, bytes: &[u8], tokens: &[Token]) -> Result<Tree, ReadR
     };
     match build(alloc, bytes, tokens, events) {
         Ok(tree) => Ok(tree),
-        Err(BuildFault::NoMemory) => Err(ReadRefusal::NoMemory),
-        Err(BuildFault::Misshapen) => unreachable!(),
+        Err(Fault::NoMemory) => Err(ReadRefusal::NoMemory),
+        Err(Fault::Misshapen) => unreachable!(),
     }
 }
 

@@ -5,8 +5,8 @@ use Rattle.std.proofs.lemmas.Fmt.{decimal_by_steps_wide}
 use Rattle.std.proofs.lemmas.List.{take_at, length-append}
 use Rattle.std.proofs.lemmas.Bool.Decides.{nat_tests}
 use Rattle.av_tree.specs.declared.written.SizeText.TheVariants as size
-use Rattle.av_reader.specs.Numbers.{number_after, number_of, spelled_number, spelled_integer}
-use Rattle.av_reader.specs.rows.TypeRows.{size_of}
+use Rattle.av_values.specs.Numbers.{number_after, number_of, spelled_number, spelled_integer}
+use Rattle.av_values.specs.Spellings.{size_of}
 
 number-append : (before : ℕ) (digits : List ℕ) (digit : ℕ) → number_after before (digits ++ digit ∷ []) ≡ number_after before digits * 10 + (digit - 48)
 unfolding number_after
@@ -66,9 +66,10 @@ begins_more n ds many b = record {
 sized : (first : ℕ) (bytes : List ℕ) → (first == 63) ≡ false
     → size_of ((first ∷ bytes) ++ codes "x") ≡ size.Fixed (spelled_number (first ∷ bytes))
 sized first bytes other =
-    let long : length (first ∷ bytes) ≡ length (bytes ++ codes "x") = omega (arith, length-append bytes (codes "x")) in
-    ap (λ (b : Bool). if b then size.Dynamic else size.Fixed (spelled_number (take (length (bytes ++ codes "x")) ((first ∷ bytes) ++ codes "x")))) other
-    ∙ ap (λ ds. size.Fixed (spelled_number ds)) (take_at (first ∷ bytes) (codes "x") (length (bytes ++ codes "x")) long)
+    let short : ℕ = length ((first ∷ bytes) ++ codes "x") - 1 in
+    let long : length (first ∷ bytes) ≡ short = omega (arith, length-append bytes (codes "x")) in
+    ap (λ (b : Bool). if b then size.Dynamic else size.Fixed (spelled_number (take short ((first ∷ bytes) ++ codes "x")))) other
+    ∙ ap (λ ds. size.Fixed (spelled_number ds)) (take_at (first ∷ bytes) (codes "x") short long)
 
 pub size-decimal : (n : ℕ) → n < 2 ^ 127 → size_of (decimal n ++ codes "x") ≡ size.Fixed n
 size-decimal n h =

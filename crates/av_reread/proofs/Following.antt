@@ -7,7 +7,7 @@ use Rattle.av_tree.specs.declared.table.Name.{Name}
 use Rattle.av_tree.specs.declared.table.Rule.{Rule}
 use Rattle.av_tree.specs.Table.{symbols_of, name_of}
 use Rattle.av_tree.specs.Signs.{begins_expression}
-use Rattle.av_reader.specs.declared.building.value.Value.{Value}
+use Rattle.av_values.specs.declared.value.Value.{Value}
 use Rattle.av_reader.specs.Building as building
 use Rattle.av_again.specs.Making.{Word, FewSigns, Makes, nothing, by_sign, by_word, by_token, by_row}
 

@@ -21,8 +21,8 @@ use Rattle.av_derive.specs.ClassOf.{keywords}
 use Rattle.av_printer.specs.Pieces.{Piece, joined, token, sign as sign_pieces}
 use Rattle.av_printer.specs.Types.{type_pieces, type_step, layout_behind}
 use Rattle.av_written.specs.Spacing as spacing
-use Rattle.av_reader.specs.Sorts.{on_top, replaced}
-use Rattle.av_reader.specs.declared.building.value.Value.TheVariants as value
+use Rattle.av_values.specs.Sorts.{on_top, replaced}
+use Rattle.av_values.specs.declared.value.Value.TheVariants as value
 use Rattle.av_totree.specs.Types.{type_of, elem_name}
 use Rattle.av_plain.specs.Programs.{Subscript}
 use Rattle.av_plain.specs.Walks.{buffer}

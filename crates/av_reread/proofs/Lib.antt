@@ -15,3 +15,11 @@ pub mod Saying
 pub mod SaidParts
 pub mod SaidLines
 pub mod SaidModules
+pub mod Giving
+pub mod GivenTypes
+pub mod GivenMaps
+pub mod GivenEntries
+pub mod GivenNodes
+pub mod PlainTypes
+pub mod GivenPrograms
+pub mod Reread

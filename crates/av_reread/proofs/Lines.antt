@@ -6,9 +6,10 @@ use Rattle.av_tree.specs.declared.node.Node.{Node, Node-F, roll-Node}
 use Rattle.av_tree.specs.declared.node.Body.{Body}
 use Rattle.av_tree.specs.declared.attribute.Attr.TheVariants as attr
 use Rattle.av_tree.specs.declared.written.TypeText.TheVariants as ty
-use Rattle.av_reader.specs.Loops.{ends_region}
-use Rattle.av_reader.specs.Nodes.{plain}
-use Rattle.av_reader.specs.declared.building.value.Value.TheVariants as value
+use Rattle.av_values.specs.Loops.{ends_region}
+use Rattle.av_values.specs.Nodes.{plain}
+use Rattle.av_values.specs.declared.value.Value.TheVariants as value
+use Rattle.av_printer.specs.declared.form.Form.TheVariants as forms
 use Rattle.av_totree.specs.Constants.{signed_low}
 use Rattle.av_totree.specs.Names.{operation_name}
 use Rattle.av_totree.specs.Types.{type_of}
@@ -24,7 +25,7 @@ use Rattle.av_reread.proofs.Nodes.{layer, access_layer}
 use Rattle.av_reread.proofs.ProgramWords.{line_words, lines_words}
 use Rattle.av_reread.proofs.Forms.{constant_form, sum_form, load_form, store_form}
 use Rattle.av_reread.proofs.Bounds.{small_constant, read_subscript, HasSmall, small-line, number-line, number-lines}
-use Rattle.av_reread.proofs.Operations.{Operations, with_name, with_result, without_result, no_operation, turned, AreOpen, IsOpen, open_name}
+use Rattle.av_reread.proofs.Operations.{Operations, with_name, with_result, without_result, no_operation, turned, AreOpen, IsOpen, no_branch, open_name}
 
 -- ---- layers
 abbrev pub i32_constant : ℕ → Node-F Body Node
@@ -56,7 +57,7 @@ named_layer counter (sum left right) place = with_name (line_layer counter (sum 
 named_layer counter (load from at) place = with_name (line_layer counter (load from at) place) (operation_name place.operations)
 named_layer counter (store stored into at) place = line_layer counter (store stored into at) place
 
-line_is : (counter : ℕ) (line : Line) (place : Place) → roll-Node (named_layer counter line place) ≡ line_node counter line place
+line_is : (counter : ℕ) (line : Line) (place : Place) → roll-Node (named_layer counter line place) ≡ line_node forms.Named counter line place
 unfolding line_node node
 line_is counter (constant pattern) place = constant_is pattern place
 line_is counter (sum left right) place = refl
@@ -75,14 +76,14 @@ name_open counter (sum left right) place = refl
 name_open counter (load from at) place = refl
 name_open counter (store stored into at) place = refl
 
-open_line : (counter : ℕ) (line : Line) (place : Place) → IsOpen (line_node counter line place)
+open_line : (counter : ℕ) (line : Line) (place : Place) → IsOpen (line_node forms.Named counter line place)
 open_line counter line place =
     subst IsOpen (line_is counter line place) (open_name (named_layer counter line place) (name_open counter line place))
 
 -- ---- lines
 unfoldable pub front_nodes : ℕ → List Line → Place → List Node
 front_nodes counter [] place = []
-front_nodes counter (line ∷ lines) place = line_node counter line place ∷ front_nodes counter lines (after_line line place)
+front_nodes counter (line ∷ lines) place = line_node forms.Named counter line place ∷ front_nodes counter lines (after_line line place)
 
 pub open_front : (counter : ℕ) (lines : List Line) (place : Place) → AreOpen (front_nodes counter lines place)
 unfolding front_nodes
@@ -94,11 +95,11 @@ unfolding plain end_node written.node
 end_is name place = refl
 
 pub line_nodes-front : (counter : ℕ) (lines : List Line) (place : Place)
-    → front_nodes counter lines place ++ plain (codes "affine.yield") 0 ∷ [] ≡ line_nodes counter lines place
+    → front_nodes counter lines place ++ plain (codes "affine.yield") 0 ∷ [] ≡ line_nodes forms.Named counter lines place
 unfolding front_nodes line_nodes
 line_nodes-front counter [] place = ap (λ n. n ∷ []) (end_is (codes "affine.yield") place)
 line_nodes-front counter (line ∷ lines) place =
-    ap (λ nodes. line_node counter line place ∷ nodes) (line_nodes-front counter lines (after_line line place))
+    ap (λ nodes. line_node forms.Named counter line place ∷ nodes) (line_nodes-front counter lines (after_line line place))
 
 module _ {most : ℕ} (two : 2 ≤ most) where
   made_line : (counter : ℕ) (line : Line) (place : Place) (visible : List ℕ) → HasSmall place → IsSoundLine visible place line → place.number < 2 ^ 64
@@ -116,7 +117,7 @@ module _ {most : ℕ} (two : 2 ≤ most) where
       (load_form (name_at place from) (name_at place counter) at place.number sound.0.0 two (read_subscript at sound.1) few
       (small from sound.0.0 sound.0.1.2) (type_at place from) sound.0.1.2) rest
   made_line counter (store stored into at) place visible small sound few rest =
-      without_result (roll-Node (line_layer counter (store stored into at) place))
+      without_result (roll-Node (line_layer counter (store stored into at) place)) (no_branch _ refl)
       (store_form (name_at place into) (name_at place counter) at place.number sound.1.0 two (read_subscript at sound.2) few
       (small into sound.1.0 sound.1.1.2) (name_at place stored) (type_at place into) sound.1.1.2) rest
 

@@ -23,10 +23,11 @@ use Rattle.av_tree.specs.declared.table.functions.FunctionRule.TheVariants as fu
 use Rattle.av_tree.specs.declared.table.attributes.AttributeRule.TheVariants as attributes_rule
 use Rattle.av_tree.specs.declared.table.types.TypeRule.TheVariants as types_rule
 use Rattle.av_derive.specs.ClassOf.{keywords}
-use Rattle.av_reader.specs.Sorts.{on_top, replaced}
-use Rattle.av_reader.specs.Nodes.{plain}
-use Rattle.av_reader.specs.Operations.{function_of, module_of, root_of}
-use Rattle.av_reader.specs.declared.building.value.Value.TheVariants as value
+use Rattle.av_values.specs.Sorts.{on_top, replaced}
+use Rattle.av_values.specs.Nodes.{plain}
+use Rattle.av_values.specs.Operations.{function_of, module_of, root_of}
+use Rattle.av_values.specs.declared.value.Value.TheVariants as value
+use Rattle.av_printer.specs.declared.form.Form.TheVariants as forms
 use Rattle.av_totree.specs.Names.{argument_name}
 use Rattle.av_totree.specs.Types.{type_of}
 use Rattle.av_plain.specs.Programs.{Program}
@@ -41,7 +42,7 @@ use Rattle.av_reread.proofs.Nodes.{via, plain-is}
 use Rattle.av_reread.proofs.ProgramWords.{argument_words, arguments_words, more_arguments_words, function_words, steps_words, program_words}
 use Rattle.av_reread.proofs.Forms.{Form, buffer_words-is}
 use Rattle.av_reread.proofs.Bounds.{HasSmall, HasFewLoops, IsSmallAs, small-argument}
-use Rattle.av_reread.proofs.Operations.{Operations, without_result, no_operation, made_region, turned, reverse-turned}
+use Rattle.av_reread.proofs.Operations.{Operations, IsNoBranch, no_branch, without_result, no_operation, made_region, turned, reverse-turned}
 use Rattle.av_reread.proofs.Steps.{made_steps}
 
 -- ---- arguments
@@ -116,15 +117,15 @@ module _ (p : Program) where
   abbrev types_in : List BodyArg → List TypeText
   types_in args = map (λ (arg : BodyArg). arg.ty) args
 
-  function_is : function_of [] (codes "@" ++ p.name) (turned_arguments (arguments 0 p.sizes)) [] [] (turned (step_nodes p.steps (body_place p))) 0
-      ≡ function_node p
+  function_is : function_of [] (codes "@" ++ p.name) (turned_arguments (arguments 0 p.sizes)) [] [] (turned (step_nodes forms.Named p.steps (body_place p))) 0
+      ≡ function_node forms.Named p
   function_is =
       let args = turned_arguments (arguments 0 p.sizes) in
-      let nodes = turned (step_nodes p.steps (body_place p)) in
+      let nodes = turned (step_nodes forms.Named p.steps (body_place p)) in
       outer_is (codes "func.func") _ _
       ∙ ap (λ args. with_parts args (types_in args) (reverse nodes)) (reverse-arguments (arguments 0 p.sizes))
       ∙ ap (λ types. with_parts (arguments 0 p.sizes) types (reverse nodes)) (argument_types 0 p.sizes)
-      ∙ ap (with_parts (arguments 0 p.sizes) (map (λ size. type_of (buffer size)) p.sizes)) (reverse-turned (step_nodes p.steps (body_place p)))
+      ∙ ap (with_parts (arguments 0 p.sizes) (map (λ size. type_of (buffer size)) p.sizes)) (reverse-turned (step_nodes forms.Named p.steps (body_place p)))
 
 small_buffer : (size : ℕ) → size < 2 ^ 31 → IsSmallAs (buffer size)
 small_buffer size h other is = let e : size ≡ other = cc in omega arith
@@ -148,7 +149,7 @@ module _ {most : ℕ} (two : 2 ≤ most) (p : Program) (sound : IsSound p) where
   inside_words = steps_words p.steps (body_place p)
 
   abbrev inside_nodes : List Node
-  inside_nodes = turned (step_nodes p.steps (body_place p))
+  inside_nodes = turned (step_nodes forms.Named p.steps (body_place p))
 
   steps_made : Makes most (Operations ∷ []) inside_words (value.Nodes inside_nodes ∷ [])
   steps_made =
@@ -156,7 +157,7 @@ module _ {most : ℕ} (two : 2 ≤ most) (p : Program) (sound : IsSound p) where
       sound.steps sound.few
 
   function_made : Makes most (symbol.Rows (name.Function functions_name.NamedFunction) ∷ []) (function_words p.name (arguments_words 0 p.sizes) inside_words)
-      (value.Node (function_node p) ∷ [])
+      (value.Node (function_node forms.Named p) ∷ [])
   unfolding replaced on_top keywords
   function_made =
       row (rule.Function functions_rule.FuncFunc) refl tt
@@ -166,12 +167,16 @@ module _ {most : ℕ} (two : 2 ≤ most) (p : Program) (sound : IsSound p) where
       (by_row {ws = []} (rule.Attribute attributes_rule.NoAttributesPart) refl tt nothing refl (made_region steps_made)))))))))
       (ap (λ n. Some (value.Node n ∷ [])) (function_is p))
 
-  form_made : Makes most (Form ∷ []) (function_words p.name (arguments_words 0 p.sizes) inside_words) (value.Node (function_node p) ∷ [])
+  no_branch_here : IsNoBranch (function_node forms.Named p)
+  unfolding outer_node
+  no_branch_here = no_branch _ refl
+
+  form_made : Makes most (Form ∷ []) (function_words p.name (arguments_words 0 p.sizes) inside_words) (value.Node (function_node forms.Named p) ∷ [])
   unfolding replaced on_top
   form_made = row (rule.Function functions_rule.FunctionForm) refl tt function_made refl
 
   abbrev root : Node
-  root = outer_node (codes "builtin.module") [] (roll-Body (record { args = []; nodes = function_node p ∷ [] }))
+  root = outer_node (codes "builtin.module") [] (roll-Body (record { args = []; nodes = function_node forms.Named p ∷ [] }))
 
   module_made : Makes most (symbol.Rows (name.Function functions_name.Module) ∷ []) (program_words p) (value.Node root ∷ [])
   unfolding replaced on_top keywords
@@ -179,14 +184,14 @@ module _ {most : ℕ} (two : 2 ≤ most) (p : Program) (sound : IsSound p) where
       row (rule.Function functions_rule.BuiltinModule) refl tt
       (by_word refl (by_row {ws = []} (rule.Function functions_rule.NoSymbol) refl tt nothing refl
       (by_row {ws = []} (rule.Attribute attributes_rule.NoAttributesPart) refl tt nothing refl
-      (made_region {inside = function_words p.name (arguments_words 0 p.sizes) inside_words} (closed (without_result (function_node p) form_made no_operation))))))
+      (made_region {inside = function_words p.name (arguments_words 0 p.sizes) inside_words} (closed (without_result (function_node forms.Named p) no_branch_here form_made no_operation))))))
       (ap (λ n. Some (value.Node n ∷ [])) (outer_is (codes "builtin.module") _ _))
 
   root_is : root_of (root ∷ []) ≡ root
   unfolding outer_node
   root_is = ap (λ (x : Node-F Body Node). if bytes_eq x.name (codes "builtin.module") then root else module_of [] [] (root ∷ []) 0) (out-roll-Node _)
 
-  pub program_made : Makes most (symbol.Rows (name.File file_name.File) ∷ []) (program_words p) (value.Tree (read_tree p) ∷ [])
+  pub program_made : Makes most (symbol.Rows (name.File file_name.File) ∷ []) (program_words p) (value.Tree (read_tree forms.Named p) ∷ [])
   unfolding replaced on_top
   program_made =
       row (rule.File file_rule.WholeFile) refl tt

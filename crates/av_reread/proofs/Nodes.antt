@@ -10,9 +10,9 @@ use Rattle.av_tree.specs.declared.written.MapText.{MapText}
 use Rattle.av_tree.specs.declared.written.TypeText.{TypeText}
 use Rattle.av_tree.specs.declared.written.ExprText.TheBlock.{shape-the_row-ExprText-0, hidden-the_row-ExprText-0}
 use denote.Hole.Carrier.{hidden}
-use Rattle.av_reader.specs.Nodes.{plain, with_property, with_operands}
-use Rattle.av_reader.specs.Accesses.{numbered, numbered_all, first_names}
-use Rattle.av_reader.specs.Operations.{named, constant_of, binary_of, with_buffer, with_unwritten_result, load_of, store_of, terminator_of, no_values}
+use Rattle.av_values.specs.Nodes.{plain, with_property, with_operands}
+use Rattle.av_values.specs.Accesses.{numbered, numbered_all, first_names}
+use Rattle.av_values.specs.Operations.{named, constant_of, binary_of, with_buffer, with_unwritten_result, load_of, store_of, terminator_of, no_values}
 use Rattle.av_plain.specs.Programs.{Subscript, fixed, variable, plus, minus}
 use Rattle.av_plain.specs.WrittenTrees.{entry, map_entry, subscript_map}
 use Rattle.av_reread.proofs.Subscripts.{subscript_value, dims_in}
@@ -48,7 +48,7 @@ pub named-is : {node : Node} (x : Node-F Body Node) (name : List ℕ) → node �
 named-is x name is = via (λ (x : Node-F Body Node). record x { results = name ∷ []; place = 0 }) x is
 
 pub constant-is : (z : ℤ) (type : TypeText)
-    → constant_of (record { value = z; ty = type }) 0
+    → constant_of (record { value = attr.Number z type; ty = Some type }) 0
     ≡ roll-Node (layer (codes "arith.constant") [] [] (entry (codes "value") (attr.Number z type) ∷ []) [] [] (Some type ∷ []))
 constant-is z type =
     via (λ (x : Node-F Body Node). record x { properties = entry (codes "value") (attr.Number z type) ∷ []; out_types = Some type ∷ [] })

@@ -1,8 +1,9 @@
 -- Operations in a row, the last one first.
-use Rattle.std.proofs.Common.{◌≡◌, ℕ, zero, suc, ◌-◌, Bool, false, List, [], ◌∷◌, ◌++◌, length, append-nil, refl, ap, ◌∙◌}
+use Rattle.std.proofs.Common.{◌≡◌, ℕ, zero, suc, ◌-◌, Bool, false, ◌&&◌, List, [], ◌∷◌, ◌++◌, length, append-nil, refl, ap, ◌∙◌}
 use Rattle.std.proofs.lemmas.List.{reverse-append}
 use Rattle.std.specs.Prelude.{Some, codes, slice_get, reverse, if◌then◌else◌}
 use Rattle.std.specs.Option.{option_map_or}
+use Rattle.std.specs.Str.{bytes_eq}
 use Rattle.av_lex.specs.declared.token.Sign.TheVariants as sign
 use Rattle.av_tree.specs.declared.node.Node.{Node, Node-F, out-Node, roll-Node, out-roll-Node}
 use Rattle.av_tree.specs.declared.node.Body.{Body}
@@ -14,10 +15,11 @@ use Rattle.av_tree.specs.declared.table.regions.RegionName.TheVariants as region
 use Rattle.av_tree.specs.declared.table.regions.RegionRule.TheVariants as regions_rule
 use Rattle.av_tree.specs.declared.table.values.ValueRule.TheVariants as values_rule
 use Rattle.av_derive.specs.ClassOf.{keywords}
-use Rattle.av_reader.specs.Sorts.{on_top, replaced}
-use Rattle.av_reader.specs.Nodes.{plain}
-use Rattle.av_reader.specs.Loops.{ends_region, terminated}
-use Rattle.av_reader.specs.declared.building.value.Value.TheVariants as value
+use Rattle.av_values.specs.Sorts.{on_top, replaced}
+use Rattle.av_values.specs.Nodes.{plain}
+use Rattle.av_values.specs.Forms.{completed, is_none, second_ended}
+use Rattle.av_values.specs.Loops.{ended, ends_region, terminated}
+use Rattle.av_values.specs.declared.value.Value.TheVariants as value
 use Rattle.av_again.specs.Making.{Word, Makes, nothing, by_sign, by_token, by_row}
 use Rattle.av_reread.proofs.Parts.{sign_word}
 use Rattle.av_reread.proofs.Following.{followed, row}
@@ -28,6 +30,20 @@ use Rattle.av_reread.proofs.Forms.{Form}
 abbrev pub Operations : Symbol
 Operations = symbol.Rows (name.Region regions_name.Operations)
 
+-- ---- operations that are no branch
+abbrev pub IsNoBranch : Node → Type 0
+IsNoBranch node = bytes_eq (out-Node node).name (codes "affine.if") ≡ false
+
+pub no_branch : (x : Node-F Body Node) → bytes_eq x.name (codes "affine.if") ≡ false → IsNoBranch (roll-Node x)
+no_branch x h = ap (λ (y : Node-F Body Node). bytes_eq y.name (codes "affine.if")) (out-roll-Node x) ∙ h
+
+-- they stay as they are among others
+pub completed-is : (node : Node) → IsNoBranch node → completed node ≡ node
+unfolding completed
+completed-is node h =
+    ap (λ (b : Bool). if b && is_none (out-Node node).out_types then roll-Node (record (out-Node node) { regions = second_ended (out-Node node).regions }) else node) h
+
+-- ---- operations
 abbrev pub with_name : Node-F Body Node → List ℕ → Node-F Body Node
 with_name x name = record x { results = name ∷ []; place = 0 }
 
@@ -50,10 +66,12 @@ module _ {most : ℕ} {form others : List Word} {nodes : List Node} where
       (operation (roll-Node x) made rest))
       (ap (λ n. Some (value.Nodes (nodes ++ n ∷ []) ∷ [])) (named-is x text refl))
 
-  pub without_result : (node : Node) → Makes most (Form ∷ []) form (value.Node node ∷ []) → Makes most (Operations ∷ []) others (value.Nodes nodes ∷ [])
+  pub without_result : (node : Node) → IsNoBranch node → Makes most (Form ∷ []) form (value.Node node ∷ []) → Makes most (Operations ∷ []) others (value.Nodes nodes ∷ [])
       → Makes most (Operations ∷ []) (form ++ others) (value.Nodes (nodes ++ node ∷ []) ∷ [])
   unfolding replaced on_top
-  without_result node made rest = row (rule.Region regions_rule.WithoutResults) refl tt (operation node made rest) refl
+  without_result node plain_here made rest =
+      row (rule.Region regions_rule.WithoutResults) refl tt (operation node made rest)
+      (ap (λ n. Some (value.Nodes (nodes ++ n ∷ []) ∷ [])) (completed-is node plain_here))
 
 module _ {most : ℕ} where
   pub no_operation : Makes most (Operations ∷ []) [] (value.Nodes [] ∷ [])
@@ -66,7 +84,8 @@ module _ {most : ℕ} where
       row (rule.Region regions_rule.WithoutResults) refl tt
       (row (rule.Region regions_rule.TerminatorOperation) refl tt
       (by_token refl (row (rule.Region regions_rule.TerminatorLast) refl tt nothing refl)) refl)
-      (ap (λ n. Some (value.Nodes (n ∷ []) ∷ [])) terminator-is)
+      (ap (λ n. Some (value.Nodes (n ∷ []) ∷ []))
+      (ap completed terminator-is ∙ completed-is (roll-Node (bare (codes "func.return"))) (no_branch (bare (codes "func.return")) refl)))
 
   -- between curly brackets
   pub made_region : {inside : List Word} {nodes : List Node} → Makes most (Operations ∷ []) inside (value.Nodes nodes ∷ [])
@@ -100,7 +119,7 @@ open_at (node ∷ nodes) zero h = h.0
 open_at (node ∷ nodes) (suc i) h = open_at nodes i h.1
 
 pub terminated-open : (nodes : List Node) → AreOpen nodes → terminated nodes ≡ nodes ++ plain (codes "affine.yield") 0 ∷ []
-unfolding terminated
+unfolding ended
 terminated-open nodes h =
     ap (λ (b : Bool). if b then nodes else nodes ++ plain (codes "affine.yield") 0 ∷ []) (open_at nodes (length nodes - 1) h)
 

@@ -25,9 +25,9 @@ use Rattle.av_tree.specs.declared.table.types.TypeRule.TheVariants as types_rule
 use Rattle.av_tree.specs.declared.table.attributes.AttributeName.TheVariants as attributes_name
 use Rattle.av_tree.specs.declared.table.attributes.AttributeRule.TheVariants as attributes_rule
 use Rattle.av_derive.specs.ClassOf.{keywords}
-use Rattle.av_reader.specs.Sorts.{on_top, replaced}
-use Rattle.av_reader.specs.declared.building.value.Value.{Value}
-use Rattle.av_reader.specs.declared.building.value.Value.TheVariants as value
+use Rattle.av_values.specs.Sorts.{on_top, replaced}
+use Rattle.av_values.specs.declared.value.Value.{Value}
+use Rattle.av_values.specs.declared.value.Value.TheVariants as value
 use Rattle.av_totree.specs.Types.{elem_name}
 use Rattle.av_plain.specs.WrittenTrees.{mark}
 use Rattle.av_again.specs.Making.{Word, class_of_word, Makes, nothing, by_sign, by_word, by_token, by_row}

@@ -14,8 +14,9 @@ use Rattle.av_printer.specs.declared.named.NamedForm.{NamedForm}
 use Rattle.av_printer.specs.declared.named.NamedForm.TheVariants as own
 use Rattle.av_printer.specs.Pieces.{Piece, space, plain, new_line, commas, behind, joined}
 use Rattle.av_printer.specs.Expressions.{value, subscripts}
-use Rattle.av_printer.specs.Operations.{Head, first_of, own_form, arith_form, is_binary, own_line, own_end, results_before, property, map_of, constant_line, binary_line, values_pieces, subscripts_if_any, buffer, access, load_line, stored_value, store_line, marks_behind}
-use Rattle.av_printer.specs.Spelling.{on_line, is_silent, is_yield, operation_of, node_line, own_body}
+use Rattle.av_printer.specs.OwnForms.{own_form, arith_form, is_binary, own_line, own_end}
+use Rattle.av_printer.specs.Operations.{Head, first_of, results_before, property, map_of, constant_line, binary_line, values_pieces, subscripts_if_any, buffer, access, load_line, stored_value, store_line, marks_behind}
+use Rattle.av_printer.specs.Spelling.{on_line, is_silent, is_yield, operation_of, node_line, own_bodies}
 use Rattle.av_printer.proofs.NodeSteps.{silent-of, whole-own}
 use Rattle.av_printer.proofs.OperationSteps.{map_of-some}
 use Rattle.av_totree.specs.Constants.{signed_low}
@@ -49,7 +50,7 @@ head_at x = record {
 -- an operation in its own form
 abbrev pub own_pieces : NamedForm → ℕ → Node-F Body Node → List Piece
 own_pieces named depth x =
-    results_before x.results ++ (own_line named (head_at x) ++ joined (map (own_body depth) x.regions) ++ own_end named (head_at x))
+    results_before x.results ++ (own_line named (head_at x) ++ joined (own_bodies depth x.regions) ++ own_end named (head_at x))
 
 pub whole_is : (x : Node-F Body Node) (named : NamedForm) (depth : ℕ) → own_form x.name ≡ Some named
     → (operation_of (roll-Node x)).whole forms.Named depth ≡ own_pieces named depth x

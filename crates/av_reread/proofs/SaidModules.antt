@@ -22,7 +22,8 @@ use Rattle.av_printer.specs.declared.named.NamedForm.TheVariants as own
 use Rattle.av_printer.specs.Pieces.{Piece, space, sign, plain, spaced, new_line, commas, behind, joined}
 use Rattle.av_printer.specs.Expressions.{number, single_bound, single_bound_of, constant_bound, bound_by}
 use Rattle.av_printer.specs.Types.{type_pieces}
-use Rattle.av_printer.specs.Operations.{Head, own_form, own_line, results_before, property, map_of, step_of, text_of, results_of, results_behind, function_name, attributes_word, marks_behind, function_line, argument, arguments_pieces, values_behind, variable, bound_if_any, step_behind, carried_behind, bounds_between, loop_start, loop_with, loop_line}
+use Rattle.av_printer.specs.OwnForms.{own_form, own_line}
+use Rattle.av_printer.specs.Operations.{Head, results_before, property, map_of, step_of, text_of, results_of, results_behind, function_name, attributes_word, marks_behind, function_line, argument, arguments_pieces, values_behind, variable, bound_if_any, step_behind, carried_behind, bounds_between, loop_start, loop_with, loop_line}
 use Rattle.av_printer.specs.Spelling.{is_silent, is_yield, node_line, own_body, pieces_of}
 use Rattle.av_printer.proofs.NodeSteps.{own-of}
 use Rattle.av_printer.proofs.OperationSteps.{map_of-some, step-some, text-some, results_of-some, results-func}

@@ -16,11 +16,12 @@ use Rattle.av_tree.specs.declared.table.affine.AffineRule.TheVariants as affine_
 use Rattle.av_tree.specs.declared.table.attributes.AttributeName.TheVariants as attributes_name
 use Rattle.av_tree.specs.declared.table.regions.RegionName.TheVariants as regions_name
 use Rattle.av_derive.specs.ClassOf.{keywords}
-use Rattle.av_reader.specs.Sorts.{on_top, replaced}
-use Rattle.av_reader.specs.Nodes.{with_property, with_operands}
-use Rattle.av_reader.specs.Loops.{bound_of_number, segments, step, terminated, with_pairs, with_carried}
-use Rattle.av_reader.specs.Operations.{loop_of, with_region}
-use Rattle.av_reader.specs.declared.building.value.Value.TheVariants as value
+use Rattle.av_values.specs.Sorts.{on_top, replaced}
+use Rattle.av_values.specs.Nodes.{with_property, with_operands}
+use Rattle.av_values.specs.Loops.{bound_of_number, segments, step, terminated, with_pairs, with_carried}
+use Rattle.av_values.specs.Operations.{loop_of, with_region}
+use Rattle.av_values.specs.declared.value.Value.TheVariants as value
+use Rattle.av_printer.specs.declared.form.Form.TheVariants as forms
 use Rattle.av_totree.specs.Constants.{signed_low}
 use Rattle.av_totree.specs.Names.{argument_name, operation_name}
 use Rattle.av_plain.specs.Programs.{Line, Step, single, counted}
@@ -36,7 +37,7 @@ use Rattle.av_reread.proofs.Nodes.{bare, via, plain-is}
 use Rattle.av_reread.proofs.ProgramWords.{loop_words, lines_words, step_words, steps_words}
 use Rattle.av_reread.proofs.Forms.{Form, constant_form}
 use Rattle.av_reread.proofs.Bounds.{small_constant, HasSmall, HasFewLoops, small-inside, small-step, few-step, number-step, number-steps, lines-before}
-use Rattle.av_reread.proofs.Operations.{Operations, with_name, with_result, without_result, return_last, made_region, turned, reverse-turned, terminated-open}
+use Rattle.av_reread.proofs.Operations.{Operations, with_name, with_result, without_result, no_branch, return_last, made_region, turned, reverse-turned, terminated-open}
 use Rattle.av_reread.proofs.Lines.{i32_constant, constant_is, front_nodes, open_front, line_nodes-front, made_lines}
 
 -- ---- bounds
@@ -62,7 +63,7 @@ loop_layer name lower upper nodes attrs = record {
   place = 0;
   results = [];
   operands = [];
-  properties = loop_properties lower upper;
+  properties = loop_properties forms.Named lower upper;
   attrs = attrs;
   regions = roll-Body (record { args = argument name (Scalar Index) ∷ []; nodes = nodes }) ∷ [];
   in_types = [];
@@ -121,7 +122,7 @@ module _ {most : ℕ} (two : 2 ≤ most) where
       (ap (λ n. Some (value.Node n ∷ [])) (loop_is name lower upper nodes (mark (codes "affvec.loop") number)))
 
   front-terminated : (lines : List Line) (place : Place)
-      → terminated (reverse (turned (front_nodes (next place) lines (inside place)))) ≡ line_nodes (next place) lines (inside place)
+      → terminated (reverse (turned (front_nodes (next place) lines (inside place)))) ≡ line_nodes forms.Named (next place) lines (inside place)
   front-terminated lines place =
       let front = front_nodes (next place) lines (inside place) in
       ap terminated (reverse-turned front) ∙ terminated-open front (open_front (next place) lines (inside place))
@@ -131,7 +132,7 @@ module _ {most : ℕ} (two : 2 ≤ most) where
       → unsigned_abs lower < 2 ^ 127 → unsigned_abs upper < 2 ^ 127 → AreSoundLines visible (inside place) lines
       → (after_lines lines (inside place)).number < 2 ^ 64 → place.loops < 2 ^ 64
       → Makes most (Form ∷ []) (loop_words (argument_name place.arguments) lower upper (lines_words (next place) lines (inside place)) place.loops)
-      (value.Node (roll-Node (loop_layer (argument_name place.arguments) lower upper (line_nodes (next place) lines (inside place)) (mark (codes "affvec.loop") place.loops))) ∷ [])
+      (value.Node (roll-Node (loop_layer (argument_name place.arguments) lower upper (line_nodes forms.Named (next place) lines (inside place)) (mark (codes "affvec.loop") place.loops))) ∷ [])
   loop_form lower upper lines place visible small low high sound few counted_few =
       revalued (ap (λ nodes. value.Node (roll-Node (loop_layer (argument_name place.arguments) lower upper nodes (mark (codes "affvec.loop") place.loops))) ∷ [])
       (front-terminated lines place))
@@ -140,19 +141,19 @@ module _ {most : ℕ} (two : 2 ≤ most) where
       (made_lines two (next place) lines (inside place) visible (small-inside place small) sound few))
 
   loop_node-is : (lower upper : ℤ) (lines : List Line) (place : Place)
-      → roll-Node (loop_layer (argument_name place.arguments) lower upper (line_nodes (next place) lines (inside place)) (mark (codes "affvec.loop") place.loops))
-      ≡ step_node (counted lower upper lines) place
+      → roll-Node (loop_layer (argument_name place.arguments) lower upper (line_nodes forms.Named (next place) lines (inside place)) (mark (codes "affvec.loop") place.loops))
+      ≡ step_node forms.Named (counted lower upper lines) place
   unfolding step_node node loop_body
   loop_node-is lower upper lines place = refl
 
-  single_is : (pattern : ℕ) (place : Place) → roll-Node (with_name (i32_constant pattern) (operation_name place.operations)) ≡ step_node (single pattern) place
+  single_is : (pattern : ℕ) (place : Place) → roll-Node (with_name (i32_constant pattern) (operation_name place.operations)) ≡ step_node forms.Named (single pattern) place
   unfolding step_node
   single_is pattern place = constant_is pattern place
 
   made_step : (step : Step) (place : Place) (visible : List ℕ) → HasSmall place → HasFewLoops place → IsSoundStep visible place step
       → (after_step step place).number < 2 ^ 64
       → {others : List Word} {nodes : List Node} → Makes most (Operations ∷ []) others (value.Nodes nodes ∷ [])
-      → Makes most (Operations ∷ []) (step_words step place ++ others) (value.Nodes (nodes ++ step_node step place ∷ []) ∷ [])
+      → Makes most (Operations ∷ []) (step_words step place ++ others) (value.Nodes (nodes ++ step_node forms.Named step place ∷ []) ∷ [])
   unfolding IsSoundStep
   made_step (single pattern) place visible small loops sound few {others} {nodes} rest =
       revalued (ap (λ n. value.Nodes (nodes ++ n ∷ []) ∷ []) (single_is pattern place))
@@ -162,7 +163,8 @@ module _ {most : ℕ} (two : 2 ≤ most) where
       let low : unsigned_abs lower < 2 ^ 127 = omega (arith, sound.0) in
       let high : unsigned_abs upper < 2 ^ 127 = omega (arith, sound.1) in
       revalued (ap (λ n. value.Nodes (nodes ++ n ∷ []) ∷ []) (loop_node-is lower upper lines place))
-      (without_result (roll-Node (loop_layer (argument_name place.arguments) lower upper (line_nodes (next place) lines (inside place)) (mark (codes "affvec.loop") place.loops)))
+      (without_result (roll-Node (loop_layer (argument_name place.arguments) lower upper (line_nodes forms.Named (next place) lines (inside place)) (mark (codes "affvec.loop") place.loops)))
+      (no_branch _ refl)
       (loop_form lower upper lines place _ small low high sound.2 (lines-before lower upper lines place (2 ^ 64) few) counted_few) rest)
 
   return_is : (place : Place) → roll-Node (bare (codes "func.return")) ≡ end_node (codes "func.return") place
@@ -171,7 +173,7 @@ module _ {most : ℕ} (two : 2 ≤ most) where
 
   pub made_steps : (steps : List Step) (place : Place) (visible : List ℕ) → HasSmall place → HasFewLoops place → AreSoundSteps visible place steps
       → (after_steps steps place).number < 2 ^ 64
-      → Makes most (Operations ∷ []) (steps_words steps place) (value.Nodes (turned (step_nodes steps place)) ∷ [])
+      → Makes most (Operations ∷ []) (steps_words steps place) (value.Nodes (turned (step_nodes forms.Named steps place)) ∷ [])
   unfolding steps_words AreSoundSteps after_steps turned step_nodes
   made_steps [] place visible small loops sound few = revalued (ap (λ n. value.Nodes (n ∷ []) ∷ []) (return_is place)) return_last
   made_steps (step ∷ steps) place visible small loops sound few =

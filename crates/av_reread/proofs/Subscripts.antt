@@ -11,11 +11,11 @@ use Rattle.av_tree.specs.declared.table.Name.TheVariants as name
 use Rattle.av_tree.specs.declared.table.Rule.TheVariants as rule
 use Rattle.av_tree.specs.declared.table.subscripts.SubscriptName.TheVariants as subscripts_name
 use Rattle.av_tree.specs.declared.table.subscripts.SubscriptRule.TheVariants as subscripts_rule
-use Rattle.av_reader.specs.Sorts.{on_top, replaced}
-use Rattle.av_reader.specs.Expressions.{joined_left}
-use Rattle.av_reader.specs.declared.building.value.Value.TheVariants as value
-use Rattle.av_reader.specs.declared.building.value.Expression.{Expression}
-use Rattle.av_reader.specs.declared.building.value.LeafKind.TheVariants.{Dimension}
+use Rattle.av_values.specs.Sorts.{on_top, replaced}
+use Rattle.av_values.specs.Expressions.{joined_left}
+use Rattle.av_values.specs.declared.value.Value.TheVariants as value
+use Rattle.av_values.specs.declared.value.Expression.{Expression}
+use Rattle.av_values.specs.declared.value.LeafKind.TheVariants.{Dimension}
 use Rattle.av_plain.specs.Programs.{Subscript, fixed, variable, plus, minus}
 use Rattle.av_again.specs.Making.{Word, class_of_word, is_calculation, Makes, nothing, by_sign, by_token}
 use Rattle.av_reread.proofs.Decimals.{integer-positive, integer-negative}

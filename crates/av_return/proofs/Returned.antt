@@ -1,10 +1,10 @@
--- What is written for a program reads again as its module.
+-- What is written for a program in a form reads again as its module.
 use Rattle.std.proofs.Common.{◌<◌, ◌≤◌, ◌^◌, ◌∙◌, length, ap, sym, subst, arith}
 use Rattle.std.specs.List.{All}
 use Rattle.av_ir.specs.declared.module.Module.{Module}
 use Rattle.av_tree.specs.declared.node.Tree.{Tree}
 use Rattle.av_totree.specs.Trees.{tree_of}
-use Rattle.av_printer.specs.declared.form.Form.TheVariants.{Named}
+use Rattle.av_printer.specs.declared.form.Form.{Form}
 use Rattle.av_printer.specs.Pieces.{spelt}
 use Rattle.av_printer.specs.Spelling.{pieces_of, spelling}
 use Rattle.av_verify.specs.declared.module.Mode.TheVariants.{Run}
@@ -26,38 +26,36 @@ use Rattle.av_plain.proofs.TakenWholes.{taken_law}
 use Rattle.av_plain.proofs.MadeModules.{tree_made}
 use Rattle.av_plain.proofs.AgainPlaces.{sizes_within}
 use Rattle.av_plain.proofs.AgainWholes.{read_again}
-use Rattle.av_sound.proofs.PrintedWalks.{printed}
-use Rattle.av_sound.proofs.BalanceOfTrees.{brackets}
-use Rattle.av_reread.proofs.Following.{respelled}
-use Rattle.av_reread.proofs.Modules.{program_made}
-use Rattle.av_reread.proofs.SaidModules.{words_are}
+use Rattle.av_sound.proofs.PrintedForms.{printed}
+use Rattle.av_sound.proofs.GenericTrees.{brackets}
+use Rattle.av_reread.proofs.Reread.{reread}
 use Rattle.av_return.specs.Returns.{ReadsAgain}
 use Rattle.av_return.specs.Laws.{HasFewValues, ReturnLaw}
 
-pub returned : (p : Program) → IsSound p → length p.sizes < 2 ^ 64 → ReadsAgain (spelling Named (written_tree p)) (module_of p)
+pub returned : (form : Form) (p : Program) → IsSound p → length p.sizes < 2 ^ 64 → ReadsAgain (spelling form (written_tree p)) (module_of p)
 unfolding spelling
-returned p sound few =
-    let pieces = pieces_of Named (written_tree p).root in
-    let spaced = trees-law Named (written_tree p).root (printed p sound) in
-    let made : IsMade (words_of pieces) (read_tree p) = record { makes = respelled (sym (words_are p)) (program_made (omega arith) p sound); brackets = brackets p } in
-    let read = reading-law (spelt pieces) (tokens_of pieces 0) (words_of pieces) (read_tree p) (spellings-law pieces) made in
+returned form p sound few =
+    let pieces = pieces_of form (written_tree p).root in
+    let spaced = trees-law form (written_tree p).root (printed form p sound) in
+    let made : IsMade (words_of pieces) (read_tree form p) = record { makes = reread form _ p (omega arith) sound; brackets = brackets form p } in
+    let read = reading-law (spelt pieces) (tokens_of pieces 0) (words_of pieces) (read_tree form p) (spellings-law pieces) made in
     record {
       tokens = tokens_of pieces 0;
       lexed = tokens-law pieces spaced;
       tree = read.read;
       is_tree = read.is;
-      elaborates = sym (places read.read Run) ∙ ap (λ (t : Tree). elaborated t Run) read.same ∙ read_again p sound few;
+      elaborates = sym (places read.read Run) ∙ ap (λ (t : Tree). elaborated t Run) read.same ∙ read_again form p sound few;
     }
 
 pub return_law : ReturnLaw
-return_law tree shape m wide forms given numbered =
-    let taken = taken_law tree shape m wide forms given in
-    let Reads : Tree → Type 0 = λ t. ReadsAgain (spelling Named t) (module_of taken.program) in
-    let Returns : Module → Type 0 = λ n. ReadsAgain (spelling Named (tree_of n)) n in
+return_law form tree shape m wide is given numbered =
+    let taken = taken_law tree shape m wide is given in
+    let Reads : Tree → Type 0 = λ t. ReadsAgain (spelling form t) (module_of taken.program) in
+    let Returns : Module → Type 0 = λ n. ReadsAgain (spelling form (tree_of n)) n in
     let Few : Module → Type 0 = λ n. All HasFewValues n.funcs in
     let values : Few (module_of taken.program) = subst Few taken.same numbered in
     let within : length taken.program.sizes ≤ length (last_place taken.program).types = sizes_within taken.program in
     let first : length (last_place taken.program).types < 2 ^ 64 = values 0 (func_of taken.program) (omega arith) in
     let few : length taken.program.sizes < 2 ^ 64 = omega arith in
-    let written : Reads (tree_of (module_of taken.program)) = subst Reads (sym (tree_made taken.program taken.sound)) (returned taken.program taken.sound few) in
+    let written : Reads (tree_of (module_of taken.program)) = subst Reads (sym (tree_made taken.program taken.sound)) (returned form taken.program taken.sound few) in
     subst Returns (sym taken.same) written

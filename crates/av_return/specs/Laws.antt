@@ -8,7 +8,7 @@ use Rattle.av_shapes.specs.declared.Shape.{Shape}
 use Rattle.av_shapes.specs.Places.{lanes}
 use Rattle.av_tree.specs.declared.node.Tree.{Tree}
 use Rattle.av_totree.specs.Trees.{tree_of}
-use Rattle.av_printer.specs.declared.form.Form.TheVariants.{Named}
+use Rattle.av_printer.specs.declared.form.Form.{Form}
 use Rattle.av_printer.specs.Spelling.{spelling}
 use Rattle.av_verify.specs.declared.module.Mode.TheVariants.{Scalar}
 use Rattle.av_verify.specs.Elaboration.{elaborated, gives}
@@ -20,7 +20,7 @@ use Rattle.av_return.specs.Returns.{ReadsAgain}
 abbrev pub HasFewValues : Func → Type 0
 HasFewValues f = length f.values < 2 ^ 64
 
--- the module of a tree of the forms that are taken, with its loops and accesses marked, is written so that it reads again as itself
+-- the module of a tree of the forms that are taken, with its loops and accesses marked, is written in either form so that it reads again as itself
 abbrev pub ReturnLaw : Type 0
-ReturnLaw = (tree : Tree) (shape : Shape) (m : Module) → 1 ≤ lanes shape 1 → is_first_path_of tree ≡ true → elaborated tree (Scalar shape) ≡ gives m
-    → All HasFewValues (marked_of m).funcs → ReadsAgain (spelling Named (tree_of (marked_of m))) (marked_of m)
+ReturnLaw = (form : Form) (tree : Tree) (shape : Shape) (m : Module) → 1 ≤ lanes shape 1 → is_first_path_of tree ≡ true → elaborated tree (Scalar shape) ≡ gives m
+    → All HasFewValues (marked_of m).funcs → ReadsAgain (spelling form (tree_of (marked_of m))) (marked_of m)

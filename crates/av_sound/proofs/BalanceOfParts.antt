@@ -83,7 +83,7 @@ layout_moves : Moves 0 0 (layout_behind None)
 unfolding layout_behind
 layout_moves = nothing 0
 
-scalar_moves : (k : ℕ) (name : List ℕ) → Moves k 0 (type_pieces (text.Scalar name))
+pub scalar_moves : (k : ℕ) (name : List ℕ) → Moves k 0 (type_pieces (text.Scalar name))
 scalar_moves k name = moves_as (type_pieces (text.Scalar name)) (type-scalar name) (plain_moves k name)
 
 pub type_moves : (t : Ty) → Moves 1 0 (type_pieces (type_of t))
@@ -126,7 +126,7 @@ assigned_moves z name =
     moves_as (assigned (attr_of (number_of name z))) (ap assigned (attr-number z (text.Scalar name)))
     (with (spaced_moves (sign_moves 0 Equal refl)) (numbered_moves 0 z name) (omega arith))
 
-entry_moves : (front name : List ℕ) (z : ℤ) → Moves 0 0 (entry_pieces (entry front (number_of name z)))
+pub entry_moves : (front name : List ℕ) (z : ℤ) → Moves 0 0 (entry_pieces (entry front (number_of name z)))
 entry_moves front name z =
     moves_as (entry_pieces (entry front (number_of name z)))
     (entry-opened (entry front (number_of name z))
@@ -149,10 +149,10 @@ leaf_moves None (Some v) name = with (plain_moves 1 (codes "symbol")) (round (va
 leaf_moves None None name = plain_moves 1 name
 
 module _ (f : List ℕ → List Piece) (each : (name : List ℕ) → Moves 1 0 (f name)) where
-  name_moves : (name : List ℕ) → Moves 1 0 (expression f (expr.Name name))
+  pub name_moves : (name : List ℕ) → Moves 1 0 (expression f (expr.Name name))
   name_moves name = moves_as (expression f (expr.Name name)) (ap (λ (p : Part). p.pieces) (of-name f name)) (each name)
 
-  const_moves : (z : ℤ) → Moves 1 0 (expression f (expr.Const z))
+  pub const_moves : (z : ℤ) → Moves 1 0 (expression f (expr.Const z))
   const_moves z = moves_as (expression f (expr.Const z)) (ap (λ (p : Part). p.pieces) (of-const f z)) (number_moves 1 z)
 
   abbrev of_name : List ℕ → Part
@@ -165,7 +165,7 @@ module _ (f : List ℕ → List Piece) (each : (name : List ℕ) → Moves 1 0 (
   unfolding side
   sides_moves s name z m = with (with (each name) (spaced_moves m) (omega arith)) (number_moves 0 z) (omega arith)
 
-  sum_moves : (name : List ℕ) (z : ℤ) → Moves 1 0 (expression f (expr.Add (expr.Name name) (expr.Const z)))
+  pub sum_moves : (name : List ℕ) (z : ℤ) → Moves 1 0 (expression f (expr.Add (expr.Name name) (expr.Const z)))
   sum_moves name z =
       moves_as (expression f (expr.Add (expr.Name name) (expr.Const z)))
       (ap (λ (p : Part). p.pieces) (of-add f (expr.Name name) (expr.Const z))
@@ -173,7 +173,7 @@ module _ (f : List ℕ → List Piece) (each : (name : List ℕ) → Moves 1 0 (
       ∙ ap (λ (p : Part). (sum (sign Plus) (of_name name) p).pieces) (of-const f z))
       (sides_moves (sign Plus) name z (sign_moves 0 Plus refl))
 
-  difference_moves : (name : List ℕ) (z : ℤ) → Moves 1 0 (expression f (expr.Sub (expr.Name name) (expr.Const z)))
+  pub difference_moves : (name : List ℕ) (z : ℤ) → Moves 1 0 (expression f (expr.Sub (expr.Name name) (expr.Const z)))
   difference_moves name z =
       moves_as (expression f (expr.Sub (expr.Name name) (expr.Const z)))
       (ap (λ (p : Part). p.pieces) (of-sub f (expr.Name name) (expr.Const z))

@@ -17,14 +17,17 @@ use Rattle.av_tree.specs.declared.written.MapText.{MapText}
 use Rattle.av_tree.specs.declared.written.TypeText.{TypeText, out-TypeText, out-roll-TypeText}
 use Rattle.av_tree.specs.declared.written.TypeText.TheVariants as text
 use Rattle.av_tree.specs.declared.written.TypeText.TheOpen as open_type
+use Rattle.av_printer.specs.declared.form.Form.{Form}
 use Rattle.av_printer.specs.declared.form.Form.TheVariants as forms
+use Rattle.av_derive.specs.Derivation.{WithinBrackets}
 use Rattle.av_printer.specs.declared.named.NamedForm.{NamedForm}
 use Rattle.av_printer.specs.declared.named.NamedForm.TheVariants as own
 use Rattle.av_printer.specs.Pieces.{Piece, space, new_line, sign, plain, joined}
 use Rattle.av_printer.specs.Expressions.{value, number}
 use Rattle.av_printer.specs.Operations as lines
-use Rattle.av_printer.specs.Operations.{Head, first_of, own_form, arith_form, is_binary, own_line, own_end, property}
-use Rattle.av_printer.specs.Spelling.{Operation, on_line, left_out, operation_of, node_line, own_body}
+use Rattle.av_printer.specs.Operations.{Head, first_of, property}
+use Rattle.av_printer.specs.OwnForms.{own_form, arith_form, is_binary, own_line, own_end}
+use Rattle.av_printer.specs.Spelling.{Operation, on_line, left_out, operation_of, node_line, own_body, own_bodies, pieces_of}
 use Rattle.av_printer.proofs.NodeSteps.{whole-own, own-of}
 use Rattle.av_totree.specs.Types.{type_of}
 use Rattle.av_totree.specs.Names.{argument_name}
@@ -33,13 +36,12 @@ use Rattle.av_plain.specs.Walks.{Place, element, buffer, type_at, name_at, after
 use Rattle.av_plain.specs.Modules.{subscript_values}
 use Rattle.av_plain.specs.WrittenTrees.{entry, number_of, mark, next_name, constant_node, bound_map, map_entry, subscript_map, node, outer_node, line_node, end_node, line_nodes, argument, loop_properties, loop_body, step_node, step_nodes, arguments, function_properties, function_node, written_tree}
 use Rattle.av_written.proofs.ExprParts.{either}
-use Rattle.av_sound.specs.Laws.{BracketsLaw}
 use Rattle.av_sound.proofs.PrintedWalks.{property-first}
-use Rattle.av_sound.proofs.Balance.{Moves, whole_within, with, widen, nothing, one, opening, closing, round, plain_moves, space_moves, new_line_moves, spaced_moves, comma_moves, sign_moves, Each, commas_moves, joined_moves, moves_as}
+use Rattle.av_sound.proofs.Balance.{classes_in, Moves, whole_within, with, widen, nothing, one, opening, closing, round, plain_moves, space_moves, new_line_moves, spaced_moves, comma_moves, sign_moves, Each, commas_moves, joined_moves, moves_as}
 use Rattle.av_sound.proofs.BalanceOfParts.{number_moves, value_moves, results_moves, values_moves, first_type_moves, mark_moves, subscripts_moves, map-only, constant_value_moves, bound_moves, argument_moves}
 
 -- ---- one level of a node
-abbrev head_in : Node-F Body Node → Head
+abbrev pub head_in : Node-F Body Node → Head
 head_in x = record {
   name = x.name;
   results = x.results;
@@ -53,7 +55,7 @@ head_in x = record {
 
 abbrev level : NamedForm → ℕ → Node-F Body Node → List Piece
 level form depth x =
-    lines.results_before x.results ++ (own_line form (head_in x) ++ joined (map (own_body depth) x.regions) ++ own_end form (head_in x))
+    lines.results_before x.results ++ (own_line form (head_in x) ++ joined (own_bodies depth x.regions) ++ own_end form (head_in x))
 
 level-is : (x : Node-F Body Node) (depth : ℕ) (form : NamedForm) → own_form x.name ≡ Some form
     → (operation_of (roll-Node x)).whole forms.Named depth ≡ level form depth x
@@ -70,21 +72,21 @@ NodesMove k [] = Unit {0}
 NodesMove k (n ∷ ns) = NodeMoves k n × NodesMove k ns
 
 node_moves : (k : ℕ) (x : Node-F Body Node) (form : NamedForm) → own_form x.name ≡ Some form → Moves k 0 (own_line form (head_in x))
-    → ((depth : ℕ) → Each k (map (own_body depth) x.regions)) → Moves k 0 (own_end form (head_in x)) → NodeMoves k (roll-Node x)
+    → ((depth : ℕ) → Each k (own_bodies depth x.regions)) → Moves k 0 (own_end form (head_in x)) → NodeMoves k (roll-Node x)
 node_moves k x form e begins bodies ends depth =
     moves_as ((operation_of (roll-Node x)).whole forms.Named depth) (level-is x depth form e)
     (with (results_moves k x.results)
-    (with (with begins (joined_moves k (map (own_body depth) x.regions) (bodies depth)) (omega arith)) ends (omega arith)) (omega arith))
+    (with (with begins (joined_moves k (own_bodies depth x.regions) (bodies depth)) (omega arith)) ends (omega arith)) (omega arith))
 
-on_line_moves : (k depth : ℕ) (op : Operation) → Moves k 0 (op.whole forms.Named depth) → Moves k 0 (on_line forms.Named depth op)
+pub on_line_moves : (form : Form) (k depth : ℕ) (op : Operation) → Moves k 0 (op.whole form depth) → Moves k 0 (on_line form depth op)
 unfolding on_line
-on_line_moves k depth op m =
-    either (Moves k 0) (left_out forms.Named op) [] (new_line depth ++ op.whole forms.Named depth) (λ b. nothing k)
+on_line_moves form k depth op m =
+    either (Moves k 0) (left_out form op) [] (new_line depth ++ op.whole form depth) (λ b. nothing k)
     (λ b. with (new_line_moves k depth) m (omega arith))
 
 lines_each : (k depth : ℕ) (ns : List Node) → NodesMove k ns → Each k (map (node_line forms.Named depth) ns)
 lines_each k depth [] h = tt
-lines_each k depth (n ∷ ns) h = (on_line_moves k depth (operation_of n) (h.0 depth), lines_each k depth ns h.1)
+lines_each k depth (n ∷ ns) h = (on_line_moves forms.Named k depth (operation_of n) (h.0 depth), lines_each k depth ns h.1)
 
 module _ (k : ℕ) (args : List BodyArg) (nodes : List Node) where
   abbrev within_body : Body-F Body Node
@@ -289,7 +291,7 @@ steps_move [] place = (return_moves place, tt)
 steps_move (step ∷ steps) place = (step_node_moves step place, steps_move steps (after_step step place))
 
 -- ---- the function and the module
-arguments_each : (k : ℕ) (sizes : List ℕ) → Each 1 (map lines.argument (arguments k sizes))
+pub arguments_each : (k : ℕ) (sizes : List ℕ) → Each 1 (map lines.argument (arguments k sizes))
 unfolding arguments
 arguments_each k [] = tt
 arguments_each k (size ∷ sizes) = (argument_moves (argument_name k) (buffer size), arguments_each (k + 1) sizes)
@@ -357,7 +359,8 @@ unfolding outer_node own_form
 module_moves p =
     node_moves 5 _ own.Module refl (plain_moves 5 (codes "module")) (one_body 4 [] (function_node p ∷ []) (function_moves p, tt)) (nothing 5)
 
-pub brackets : BracketsLaw
-brackets p =
+-- with operations in forms of their own
+pub brackets_named : (p : Program) → WithinBrackets 192 0 (classes_in (pieces_of forms.Named (written_tree p).root))
+brackets_named p =
     whole_within 5 ((operation_of (written_tree p).root).whole forms.Named 0 ++ new_line 0) (omega arith)
     (with (module_moves p 0) (new_line_moves 0 0) (omega arith))

@@ -2,6 +2,9 @@ pub mod PrintedNames
 pub mod PrintedParts
 pub mod PrintedNodes
 pub mod PrintedWalks
+pub mod PrintedForms
 pub mod Balance
 pub mod BalanceOfParts
 pub mod BalanceOfTrees
+pub mod GenericParts
+pub mod GenericTrees

@@ -20,7 +20,7 @@ use Rattle.av_totree.specs.Names.{argument_name, operation_name}
 use Rattle.av_plain.specs.Programs.{Subscript, fixed, variable, plus, minus, Line, constant, sum, load, store, Step, single, counted, Program}
 use Rattle.av_plain.specs.Walks.{Place, element, buffer, type_at, next, passed, with_result, with_argument, after_line, after_lines, inside, after_step, after_steps, after_buffers, first_place, body_place}
 use Rattle.av_plain.specs.Modules.{subscript_values}
-use Rattle.av_plain.specs.WrittenTrees.{entry, mark, next_name, constant_node, constant_attr, map_entry, subscript_map, line_node, end_node, line_nodes, argument, loop_properties, loop_body, step_node, step_nodes, arguments, function_properties, function_node}
+use Rattle.av_plain.specs.WrittenTrees.{entry, mark, next_name, constant_node, constant_attr, map_entry, subscript_map, line_node, end_node, line_nodes, argument, loop_properties, loop_body, step_node, step_nodes, arguments, function_properties, function_node, written_tree}
 use Rattle.av_plain.specs.Sound.{IsSoundLine, visible_after, AreSoundLines, IsSoundStep, visible_behind, AreSoundSteps, IsSound}
 use Rattle.av_plain.proofs.Ahead.{AreBefore, next-result, next-argument, next-passed}
 use Rattle.av_written.specs.Spacing.{IsWord}
@@ -28,7 +28,6 @@ use Rattle.av_written.specs.ReadAttributes as attributes
 use Rattle.av_written.specs.ReadAttributes.{AreReadEntries, no_entries}
 use Rattle.av_written.specs.ReadNodes.{IsResult, IsReadArg, HasSymbol, IsReadNode, AreReadBodies, no_bodies, AreReadNodes, no_nodes, one_node_more}
 use Rattle.av_written.proofs.Words.{is_word}
-use Rattle.av_sound.specs.Laws.{PrintedLaw}
 use Rattle.av_sound.proofs.PrintedNames.{argument_is, operation_is, symbol_word, quoted_word, quotes_word}
 use Rattle.av_sound.proofs.PrintedParts.{all_cons, all_tail, index_type, element_type, buffer_type, function_type, entry_more, mark_read, constant_read, access_read, loop_read}
 use Rattle.av_sound.proofs.PrintedNodes.{IsReadTy, IsGood, good-result, good-argument, good-passed, type_read, node_read, outer_read, one_body}
@@ -279,8 +278,9 @@ function_read p sound =
 module_symbol : HasSymbol forms.Named (codes "builtin.module") []
 module_symbol e = absurd (false≢true (ap (λ (text : List ℕ). same text (codes "func.func")) e))
 
-pub printed : PrintedLaw
+-- with operations in forms of their own
+pub printed_named : (p : Program) → IsSound p → IsReadNode forms.Named (written_tree p).root
 unfolding in_class
-printed p sound =
+printed_named p sound =
     outer_read (codes "builtin.module") [] [] (function_node p ∷ []) (quotes_word (codes "builtin.module") refl) no_entries module_symbol
     (All-nil IsReadArg) (one_node_more (function_node p) [] (function_read p sound) no_nodes)

@@ -3,7 +3,7 @@ use Rattle.std.specs.Prelude.{ℕ, List, map}
 use Rattle.av_lex.specs.declared.token.Kind.{Kind}
 use Rattle.av_derive.specs.ClassOf.{class_of}
 use Rattle.av_derive.specs.Derivation.{WithinBrackets}
-use Rattle.av_printer.specs.declared.form.Form.TheVariants as forms
+use Rattle.av_printer.specs.declared.form.Form.{Form}
 use Rattle.av_printer.specs.Spelling.{pieces_of}
 use Rattle.av_written.specs.Spacing.{words_of}
 use Rattle.av_written.specs.ReadNodes.{IsReadNode}
@@ -11,12 +11,12 @@ use Rattle.av_plain.specs.Programs.{Program}
 use Rattle.av_plain.specs.Sound.{IsSound}
 use Rattle.av_plain.specs.WrittenTrees.{written_tree}
 
--- with operations in forms of their own, the tree can be spelled so that its text is read again
+-- in either form, the tree can be spelled so that its text is read again
 abbrev pub PrintedLaw : Type 0
-PrintedLaw = (p : Program) → IsSound p → IsReadNode forms.Named (written_tree p).root
+PrintedLaw = (form : Form) (p : Program) → IsSound p → IsReadNode form (written_tree p).root
 
--- the words of a program's tree open at most 192 brackets at once
+-- in either form, the words of a program's tree open at most 192 brackets at once
 abbrev pub BracketsLaw : Type 0
 BracketsLaw =
-    (p : Program)
-    → WithinBrackets 192 0 (map (λ (word : Kind × List ℕ). class_of word.0 word.1) (words_of (pieces_of forms.Named (written_tree p).root)))
+    (form : Form) (p : Program)
+    → WithinBrackets 192 0 (map (λ (word : Kind × List ℕ). class_of word.0 word.1) (words_of (pieces_of form (written_tree p).root)))

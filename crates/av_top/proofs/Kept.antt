@@ -7,11 +7,13 @@ use Rattle.av_return.specs.Returns.{ReadsAgain}
 use Rattle.av_tree.specs.declared.node.Tree.{Tree}
 use Rattle.av_ir.specs.declared.module.Module.{Module}
 use Rattle.av_ir.specs.Marks.{marked_of}
+use Rattle.av_top.specs.declared.request.Request.{Request}
 use Rattle.av_top.specs.Answer.{printed}
 use Rattle.av_top.specs.FirstPathText.{IsModuleOf}
 
-pub reads_again : (size : ℕ) (tree : Tree) (m : Module) (text : List ℕ) → 1 ≤ size → IsModuleOf size tree m → All HasFewValues (marked_of m).funcs → text ≡ printed m → ReadsAgain text (marked_of m)
-reads_again size tree m text some is few written =
-    let wide : 1 ≤ size * 1 = omega arith in
+pub reads_again : (request : Request) (tree : Tree) (m : Module) (text : List ℕ) → 1 ≤ request.size → IsModuleOf request.size tree m → All HasFewValues (marked_of m).funcs → text ≡ printed request.form m
+    → ReadsAgain text (marked_of m)
+reads_again request tree m text some is few written =
+    let wide : 1 ≤ request.size * 1 = omega arith in
     let Reads : List ℕ → Type 0 = λ t. ReadsAgain t (marked_of m) in
-    subst Reads (sym written) (return_law tree (record { sizes = size ∷ []; scalable = false }) m wide is.forms is.elaborates few)
+    subst Reads (sym written) (return_law request.form tree (record { sizes = request.size ∷ []; scalable = false }) m wide is.forms is.elaborates few)

@@ -1,6 +1,9 @@
 pub mod Words
 pub mod Lines
+pub mod OneFault
 pub mod OneModule
+pub mod Refusing
 pub mod Decisions
+pub mod Endings
 pub mod Kept
 pub mod Values

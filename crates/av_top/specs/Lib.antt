@@ -1,4 +1,5 @@
 pub mod Request
+pub mod TextFault
 pub mod Outcome
 pub mod Number
 pub mod Intake

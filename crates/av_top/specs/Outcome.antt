@@ -3,7 +3,8 @@ use Rattle.std.specs.Prelude.{◌≡◌, ℕ, ◌≤◌, List, length, take, cod
 use Rattle.std.specs.Io.KnownBytes.{Appends, Consumes, IsAtEnd}
 use Rattle.av_io.specs.Devices.{Rose}
 use Rattle.av_top.specs.declared.status.Status.{Status}
-use Rattle.av_top.specs.declared.status.Status.TheVariants.{Done, BadUsage, ReadFault, WriteFault, NoMemory, NotBuilt}
+use Rattle.av_top.specs.declared.status.Status.TheVariants.{Done, BadUsage, BadText, ReadFault, WriteFault, NoMemory, TooLarge, NotBuilt}
+use Rattle.av_top.specs.TextFault.{line_of}
 
 -- at most a megabyte and one byte were taken from what was left, where it is told
 abbrev pub Taken : Option (List ℕ) → Option (List ℕ) → Type 0
@@ -13,10 +14,9 @@ Taken left left' = (bytes : List ℕ) × (length bytes ≤ 1048577) × Consumes 
 abbrev pub TakenAll : Option (List ℕ) → Option (List ℕ) → Type 0
 TakenAll left left' = (bytes : List ℕ) × (length bytes ≤ 1048576) × Consumes left left' bytes × IsAtEnd left'
 
--- all was taken, or a megabyte and one byte
-abbrev pub TakenAllOrMany : Option (List ℕ) → Option (List ℕ) → Type 0
-TakenAllOrMany left left' =
-    TakenAll left left' ⊎ ((bytes : List ℕ) × (length bytes ≡ 1048577) × Consumes left left' bytes)
+-- a megabyte and one byte were taken
+abbrev pub TakenMany : Option (List ℕ) → Option (List ℕ) → Type 0
+TakenMany left left' = (bytes : List ℕ) × (length bytes ≡ 1048577) × Consumes left left' bytes
 
 -- a sink, which held `held` and had counted `faults`, is as it was
 pub record Same (held held' : Option (List ℕ)) (faults faults' : ℕ) : Type 0 where
@@ -42,7 +42,9 @@ abbrev pub InputAfter : Status → Option (List ℕ) → Option (List ℕ) → �
 InputAfter BadUsage left left' faults faults' = (left' ≡ left) × (faults' ≡ faults)
 InputAfter ReadFault left left' faults faults' = Taken left left' × Rose faults faults'
 InputAfter NoMemory left left' faults faults' = Taken left left' × (faults ≤ faults')
-InputAfter NotBuilt left left' faults faults' = TakenAllOrMany left left' × (faults' ≡ faults)
+InputAfter TooLarge left left' faults faults' = TakenMany left left' × (faults' ≡ faults)
+InputAfter (BadText place fault) left left' faults faults' = TakenAll left left' × (faults' ≡ faults)
+InputAfter NotBuilt left left' faults faults' = TakenAll left left' × (faults' ≡ faults)
 InputAfter WriteFault left left' faults faults' = TakenAll left left' × (faults' ≡ faults)
 InputAfter Done left left' faults faults' = TakenAll left left' × (faults' ≡ faults)
 
@@ -61,6 +63,8 @@ Undelivered held held' faults faults' noted noted' nfaults nfaults' text report 
 abbrev pub SinksAfter : Status → (held held' : Option (List ℕ)) (faults faults' : ℕ) (noted noted' : Option (List ℕ)) (nfaults nfaults' : ℕ) → Type 0
 SinksAfter BadUsage h h' f f' n n' nf nf' = Same h h' f f' × Noted (codes "affvec: usage\n") n n' nf nf'
 SinksAfter ReadFault h h' f f' n n' nf nf' = Same h h' f f' × Noted (codes "affvec: read fault\n") n n' nf nf'
+SinksAfter TooLarge h h' f f' n n' nf nf' = Same h h' f f' × Noted (codes "affvec: input too large\n") n n' nf nf'
+SinksAfter (BadText place fault) h h' f f' n n' nf nf' = Same h h' f f' × Noted (line_of place fault) n n' nf nf'
 SinksAfter NotBuilt h h' f f' n n' nf nf' = Same h h' f f' × Noted (codes "affvec: not built\n") n n' nf nf'
 SinksAfter NoMemory h h' f f' n n' nf nf' = Same h h' f f' × Same n n' nf nf'
 SinksAfter WriteFault h h' f f' n n' nf nf' =
@@ -77,6 +81,7 @@ RefusalEnds status refusal line noted noted' faults faults' =
 abbrev pub IsAnswered : Status → Type 0
 IsAnswered Done = Unit {0}
 IsAnswered WriteFault = Unit {0}
+IsAnswered (BadText place fault) = Unit {0}
 IsAnswered NotBuilt = Unit {0}
 IsAnswered NoMemory = Unit {0}
 IsAnswered _ = ⊥

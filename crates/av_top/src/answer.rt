@@ -1,17 +1,18 @@
 //! The texts that answer a request.
 
-ghost use Rattle.std.specs.Prelude.{◌≡◌, ◌≤◌, ℕ, List, length, IfOk, IsErrOf};
+ghost use Rattle.std.specs.Prelude.{◌≡◌, ◌≤◌, ℕ, List, length, IfErr, IfOk};
 ghost use Rattle.std.specs.List.{All};
-ghost use Rattle.av_ir.specs.declared.module.Module.{Module as OneModule};
 ghost use Rattle.av_ir.specs.Marks.{marked_of};
 ghost use Rattle.av_top.specs.Answer.{Answers, printed};
-ghost use Rattle.av_top.specs.FirstPathText.{IsFirstPathText, IsModuleOf};
+ghost use Rattle.av_top.specs.FirstPathText.{IsModuleOf};
+ghost use Rattle.av_top.specs.Refusals.{Refuses, RefusesTree};
 ghost use Rattle.av_top.specs.Report.{reported};
 ghost use Rattle.av_top.specs.Values.{most_of};
 ghost use Rattle.av_return.specs.Laws.{HasFewValues};
 
 use crate::report::report_of;
 use crate::request::Request;
+use crate::status::TextFault;
 use av_affine::Text;
 use av_ir::{Func, Module, inner_loops, marked};
 use av_lex::{LexFault, lex};
@@ -33,6 +34,9 @@ pub struct Texts {
 /// Why there is no answer.
 #[derive(Clone, Copy, Debug, Drop, PartialEq)]
 pub enum Refusal {
+    /// The input has no tokens or no tree.
+    BadText(u32, TextFault),
+    /// The input is a text, but none of the forms that are taken.
     NotBuilt,
     NoMemory,
 }
@@ -57,7 +61,8 @@ impl From<LexFault> for Refusal {
     fn from(fault: LexFault) -> Refusal {
         match fault {
             LexFault::NoMemory => Refusal::NoMemory,
-            LexFault::BadByte(_) | LexFault::LongNumber(_) => Refusal::NotBuilt,
+            LexFault::BadByte(place) => Refusal::BadText(place, TextFault::BadByte),
+            LexFault::LongNumber(place) => Refusal::BadText(place, TextFault::LongNumber),
         }
     }
 }
@@ -71,7 +76,8 @@ impl From<ReadRefusal> for Refusal {
     fn from(refusal: ReadRefusal) -> Refusal {
         match refusal {
             ReadRefusal::NoMemory => Refusal::NoMemory,
-            ReadRefusal::NotAModule(_) | ReadRefusal::TooDeep(_) => Refusal::NotBuilt,
+            ReadRefusal::NotAModule(place) => Refusal::BadText(place, TextFault::NotAModule),
+            ReadRefusal::TooDeep(place) => Refusal::BadText(place, TextFault::TooDeep),
         }
     }
 }
@@ -95,30 +101,31 @@ impl From<VerifyRefusal> for Refusal {
 ///
 /// # Errors
 ///
-/// `NotBuilt` where the input is no text of the forms that are taken, `NoMemory` where memory lacks.
+/// `BadText` where the input has no tokens or no tree, `NotBuilt` where it is no text of the forms that
+/// are taken, `NoMemory` where memory lacks.
 pub fn answer(alloc: Global, request: Request, bytes: &[u8]) -> Result<Texts, Refusal>
     requires { (1 ≤ request.size) × (request.size ≤ 64) × (length bytes.now ≤ 1048576) }
-    ensures ok { IfOk result (λ texts. Answers request.size bytes.now texts.text texts.report) }
-    ensures only { IfOk result (λ texts. (text report : List ℕ) → Answers request.size bytes.now text report → (text ≡ texts.text) × (report ≡ texts.report)) }
-    ensures not_built { IsErrOf result Refusal.NotBuilt → IsFirstPathText request.size bytes.now → ⊥ }
+    ensures ok { IfOk result (λ texts. Answers request bytes.now texts.text texts.report) }
+    ensures only { IfOk result (λ texts. (text report : List ℕ) → Answers request bytes.now text report → (text ≡ texts.text) × (report ≡ texts.report)) }
+    ensures refused { IfErr result (λ refusal. Refuses refusal request.size bytes.now) }
 {
     let tokens = lex(alloc, bytes)?;
     let tree = read(alloc, bytes, tokens.as_slice())?;
     let module = module_of(alloc, request, &tree)?;
-    let texts = texts_of(alloc, &module)?;
+    let texts = texts_of(alloc, &module, request.form)?;
     Ok(texts)
 }
 
-// What is written and reported for a module.
-fn texts_of(alloc: Global, module: &Module) -> Result<Texts, AllocError>
-    ensures text { IfOk result (λ texts. texts.text ≡ printed «module».now) }
+// What is written, in this form, and reported for a module.
+fn texts_of(alloc: Global, module: &Module, form: Form) -> Result<Texts, AllocError>
+    ensures text { IfOk result (λ texts. texts.text ≡ printed form «module».now) }
     ensures report { IfOk result (λ texts. texts.report ≡ reported (marked_of «module».now)) }
     ensures few { IfOk result (λ _. All HasFewValues (marked_of «module».now).funcs) }
 {
     let marked = marked(alloc, module)?;
     let _most = most_values(marked.funcs.as_slice());
     let tree = to_tree(alloc, &marked)?;
-    let text = spell(alloc, &tree, Form::Named)?;
+    let text = spell(alloc, &tree, form)?;
     let loops = inner_loops(alloc, &marked)?;
     let report = report_of(alloc, marked.funcs.as_slice(), loops.as_slice())?;
     Ok(Texts { text, report })
@@ -143,7 +150,7 @@ fn most_values(funcs: &[Func]) -> usize
 fn module_of(alloc: Global, request: Request, tree: &Tree) -> Result<Module, Refusal>
     requires { (1 ≤ request.size) × (request.size ≤ 64) }
     ensures ok { IfOk result (λ m. IsModuleOf request.size tree.now m) }
-    ensures not_built { IsErrOf result Refusal.NotBuilt → (m : OneModule) → IsModuleOf request.size tree.now m → ⊥ }
+    ensures refused { IfErr result (λ refusal. RefusesTree refusal request.size tree.now) }
 {
     if !is_first_path(tree) {
         return Err(Refusal::NotBuilt);

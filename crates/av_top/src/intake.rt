@@ -3,7 +3,7 @@
 ghost use Rattle.std.specs.Prelude.{◌≡◌, ℕ, ◌≤◌, List, length, OnOk, OnErr, IfOk, IfErr, vec_len, is_some};
 ghost use Rattle.std.specs.Io.KnownBytes.{Consumes, IsAtEnd};
 ghost use Rattle.av_io.specs.Devices.{Rose};
-ghost use Rattle.av_top.specs.Outcome.{Taken, TakenAll, TakenAllOrMany};
+ghost use Rattle.av_top.specs.Outcome.{Taken, TakenAll, TakenMany};
 ghost use Rattle.av_top.specs.Intake.{IntakeStopped, IntakeEnds};
 
 use av_io::{Source, read_full};

@@ -14,7 +14,7 @@ mod status;
 
 pub use command::affvec;
 pub use request::Request;
-pub use status::Status;
+pub use status::{Status, TextFault};
 
 #[cfg(test)]
 mod tests;

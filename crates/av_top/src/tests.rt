@@ -2,8 +2,11 @@
 ghost use Rattle.std.specs.Prelude.{◌<◌};
 
 mod forms;
+mod rows;
+mod tables;
+mod texts;
 
-use crate::{Status, affvec};
+use crate::{Status, TextFault, affvec};
 use av_io::{MemSink, MemSource};
 use std::alloc::{AllocError, Global};
 use std::process::Abort;
@@ -35,6 +38,22 @@ const PREV_MARKED: &str = "module {
 }
 ";
 
+const PREV_GENERIC: &str = "\"builtin.module\"() ({
+  \"func.func\"() <{function_type = (memref<100xi32>) -> (), sym_name = \"prev\"}> ({
+  ^bb0(%arg0: memref<100xi32>):
+    %0 = \"arith.constant\"() <{value = 1 : i32}> : () -> i32
+    \"affine.for\"() <{lowerBoundMap = affine_map<() -> (1)>, operandSegmentSizes = array<i32: 0, 0, 0>, step = 1 : index, upperBoundMap = affine_map<() -> (100)>}> ({
+    ^bb0(%arg1: index):
+      %1 = \"affine.load\"(%arg0, %arg1) <{map = affine_map<(d0) -> (d0 - 1)>}> {affvec.of = 4 : i64} : (memref<100xi32>, index) -> i32
+      %2 = \"arith.addi\"(%1, %0) : (i32, i32) -> i32
+      \"affine.store\"(%2, %arg0, %arg1) <{map = affine_map<(d0) -> (d0)>}> {affvec.of = 6 : i64} : (i32, memref<100xi32>, index) -> ()
+      \"affine.yield\"() : () -> ()
+    }) {affvec.loop = 0 : i64} : () -> ()
+    \"func.return\"() : () -> ()
+  }) : () -> ()
+}) : () -> ()
+";
+
 const ADD: &str = "module {
   func.func @add(%A: memref<100xi32>, %B: memref<100xi32>, %C: memref<100xi32>) {
     affine.for %i = 0 to 100 {
@@ -49,6 +68,8 @@ const ADD: &str = "module {
 ";
 
 const VECTORIZE: [&str; 3] = ["vectorize", "--sizes", "4"];
+
+const GENERIC: [&str; 4] = ["vectorize", "--sizes", "4", "--generic"];
 
 /// What a call of the command answered and left.
 #[derive(Drop)]
@@ -84,6 +105,14 @@ fn source(alloc: Global, text: &str, most: usize) -> Result<MemSource, AllocErro
 {
     let bytes = text.as_bytes().to_vec(alloc)?;
     Ok(MemSource::new(bytes, most, Vec::new(alloc)))
+}
+
+/// The text with the first `old` in it replaced.
+fn edited(alloc: Global, text: &str, old: &str, new: &str) -> Result<String, AllocError> {
+    match text.split_once(old) {
+        Some((before, after)) => format!(in alloc; "{before}{new}{after}"),
+        None => String::from_str(alloc, text),
+    }
 }
 
 /// An empty sink whose writes don't fail.
@@ -123,22 +152,65 @@ fn a_fault_ends_the_command(rt: HostRuntime) -> Result<(), Fail> {
 }
 
 #[test]
-fn other_words_and_texts_are_refused(rt: HostRuntime) -> Result<(), Fail> {
+fn other_words_are_refused(rt: HostRuntime) -> Result<(), Fail> {
     let alloc = rt.alloc();
-    let usages = [
-        ["vectorize", "--sizes", "0"],
-        ["vectorize", "--sizes", "04"],
-        ["vectorize", "--sizes", "65"],
-        ["vectorize", "--size", "4"],
-        ["plan", "--sizes", "4"],
+    let usages: [&[&str]; 9] = [
+        &["vectorize", "--sizes", "0"],
+        &["vectorize", "--sizes", "04"],
+        &["vectorize", "--sizes", "65"],
+        &["vectorize", "--size", "4"],
+        &["plan", "--sizes", "4"],
+        &["vectorize", "--sizes", "4", "--generics"],
+        &["vectorize", "--generic", "--sizes", "4"],
+        &["--generic", "vectorize", "--sizes", "4"],
+        &["vectorize", "--sizes", "4", "--generic", "--generic"],
     ];
     for words in usages {
-        let ran = run(alloc, &words, source(alloc, PREV, 4096)?, sink(alloc))?;
+        let ran = run(alloc, words, source(alloc, PREV, 4096)?, sink(alloc))?;
         ended(&rt, &ran, Status::BadUsage, "", "affvec: usage\n");
     }
-    for text in ["", "module {", "module { vector.transpose }", "module {}"] {
-        let ran = run(alloc, &VECTORIZE, source(alloc, text, 4096)?, sink(alloc))?;
-        ended(&rt, &ran, Status::NotBuilt, "", "affvec: not built\n");
-    }
     Ok(())
+}
+
+#[test]
+fn the_last_word_asks_for_the_generic_form(rt: HostRuntime) -> Result<(), Fail> {
+    let alloc = rt.alloc();
+    let notes = "@prev loop 0: kept not-built 0\n";
+    let ran = run(alloc, &GENERIC, source(alloc, PREV, 4096)?, sink(alloc))?;
+    ended(&rt, &ran, Status::Done, PREV_GENERIC, notes);
+    // What is written is read again, and so is a property that is dropped.
+    let dropped = "(%1, %0) <{overflowFlags = #arith.overflow<none>}> :";
+    let text = edited(alloc, PREV_GENERIC, "(%1, %0) :", dropped)?;
+    let ran = run(
+        alloc,
+        &GENERIC,
+        source(alloc, text.as_str(), 4096)?,
+        sink(alloc),
+    )?;
+    ended(&rt, &ran, Status::Done, PREV_GENERIC, notes);
+    let ran = run(
+        alloc,
+        &VECTORIZE,
+        source(alloc, text.as_str(), 4096)?,
+        sink(alloc),
+    )?;
+    ended(&rt, &ran, Status::Done, PREV_MARKED, notes);
+    Ok(())
+}
+
+#[test]
+fn statuses_have_their_numbers(rt: HostRuntime) {
+    let numbers = [
+        (Status::Done, 0),
+        (Status::BadUsage, 1),
+        (Status::BadText(9, TextFault::NotAModule), 2),
+        (Status::ReadFault, 4),
+        (Status::WriteFault, 5),
+        (Status::NoMemory, 6),
+        (Status::TooLarge, 10),
+        (Status::NotBuilt, 11),
+    ];
+    for (status, number) in numbers {
+        assert_eq!(rt; status.number(), number);
+    }
 }

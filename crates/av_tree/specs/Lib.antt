@@ -3,4 +3,5 @@ pub mod Needs
 pub mod Sets
 pub mod Signs
 pub mod Table
+pub mod Templates
 pub mod rows

@@ -11,6 +11,7 @@ use Rattle.av_tree.specs.declared.table.Rule.TheVariants as rule
 use Rattle.av_tree.specs.declared.table.file.FileName.TheVariants as file_name
 use Rattle.av_tree.specs.declared.table.functions.FunctionName.TheVariants as functions_name
 use Rattle.av_tree.specs.declared.table.regions.RegionName.TheVariants as regions_name
+use Rattle.av_tree.specs.declared.table.generic.GenericName.TheVariants as generic_name
 use Rattle.av_tree.specs.declared.table.types.TypeName.TheVariants as types_name
 use Rattle.av_tree.specs.declared.table.attributes.AttributeName.TheVariants as attributes_name
 use Rattle.av_tree.specs.declared.table.maps.MapName.TheVariants as maps_name
@@ -21,6 +22,7 @@ use Rattle.av_tree.specs.declared.table.subscripts.SubscriptName.TheVariants as 
 use Rattle.av_tree.specs.declared.table.file.FileRule.TheVariants as file
 use Rattle.av_tree.specs.declared.table.functions.FunctionRule.TheVariants as functions
 use Rattle.av_tree.specs.declared.table.regions.RegionRule.TheVariants as regions
+use Rattle.av_tree.specs.declared.table.generic.GenericRule.TheVariants as generic
 use Rattle.av_tree.specs.declared.table.types.TypeRule.TheVariants as types
 use Rattle.av_tree.specs.declared.table.attributes.AttributeRule.TheVariants as attributes
 use Rattle.av_tree.specs.declared.table.maps.MapRule.TheVariants as maps
@@ -28,6 +30,9 @@ use Rattle.av_tree.specs.declared.table.values.ValueRule.TheVariants as values
 use Rattle.av_tree.specs.declared.table.arith.ArithRule.TheVariants as arith
 use Rattle.av_tree.specs.declared.table.affine.AffineRule.TheVariants as affine
 use Rattle.av_tree.specs.declared.table.subscripts.SubscriptRule.TheVariants as subscripts
+use Rattle.av_tree.specs.declared.table.memref.MemRefRule.TheVariants as memref
+use Rattle.av_tree.specs.declared.table.scf.ScfRule.TheVariants as scf
+use Rattle.av_tree.specs.declared.table.vector.VectorRule.TheVariants as vector
 
 unfoldable pub class_number : Class → ℕ
 class_number class.End = 0
@@ -52,38 +57,74 @@ class_number (class.Sign sign.EqualEqual) = 18
 class_number (class.Word key.Module) = 19
 class_number (class.Word key.FuncFunc) = 20
 class_number (class.Word key.ArithConstant) = 21
-class_number (class.Word key.AffineFor) = 22
-class_number (class.Word key.AffineLoad) = 23
-class_number (class.Word key.AffineStore) = 24
-class_number (class.Word key.MemRef) = 25
-class_number (class.Word key.AffineMap) = 26
-class_number (class.Word key.Symbol) = 27
-class_number (class.Word key.Overflow) = 28
-class_number (class.Word key.Attributes) = 29
-class_number (class.Word key.To) = 30
-class_number (class.Word key.Step) = 31
-class_number (class.Word key.IterArgs) = 32
-class_number (class.Word key.Min) = 33
-class_number (class.Word key.Max) = 34
-class_number (class.Word key.FunctionType) = 35
-class_number (class.Word key.Terminator) = 36
-class_number (class.Word key.Overflowing) = 37
-class_number (class.Word key.Visibility) = 38
-class_number (class.Word key.OverflowFlag) = 39
-class_number (class.Word key.Division) = 40
-class_number class.Scalar = 41
-class_number class.OtherWord = 42
-class_number class.Zero = 43
-class_number class.Positive = 44
-class_number class.DimX = 45
-class_number class.ScalX = 46
-class_number class.ValId = 47
-class_number class.SymId = 48
-class_number class.HashDigits = 49
-class_number class.HashWord = 50
-class_number class.HashOther = 51
-class_number class.CaretId = 52
-class_number class.Quoted = 53
+class_number (class.Word key.ArithCmpi) = 22
+class_number (class.Word key.ArithSelect) = 23
+class_number (class.Word key.AffineFor) = 24
+class_number (class.Word key.AffineIf) = 25
+class_number (class.Word key.AffineLoad) = 26
+class_number (class.Word key.AffineStore) = 27
+class_number (class.Word key.MemRefLoad) = 28
+class_number (class.Word key.MemRefStore) = 29
+class_number (class.Word key.MemRefDim) = 30
+class_number (class.Word key.ScfFor) = 31
+class_number (class.Word key.VectorLoad) = 32
+class_number (class.Word key.VectorStore) = 33
+class_number (class.Word key.VectorMaskedLoad) = 34
+class_number (class.Word key.VectorMaskedStore) = 35
+class_number (class.Word key.VectorBroadcast) = 36
+class_number (class.Word key.VectorCreateMask) = 37
+class_number (class.Word key.VectorReduction) = 38
+class_number (class.Word key.VectorExtract) = 39
+class_number (class.Word key.VectorInsert) = 40
+class_number (class.Word key.VectorShuffle) = 41
+class_number (class.Word key.VectorStep) = 42
+class_number (class.Word key.VectorVscale) = 43
+class_number (class.Word key.MemRef) = 44
+class_number (class.Word key.Vector) = 45
+class_number (class.Word key.Strided) = 46
+class_number (class.Word key.Offset) = 47
+class_number (class.Word key.AffineMap) = 48
+class_number (class.Word key.AffineSet) = 49
+class_number (class.Word key.Array) = 50
+class_number (class.Word key.Dense) = 51
+class_number (class.Word key.FunctionType) = 52
+class_number (class.Word key.Symbol) = 53
+class_number (class.Word key.Overflow) = 54
+class_number (class.Word key.Attributes) = 55
+class_number (class.Word key.To) = 56
+class_number (class.Word key.Step) = 57
+class_number (class.Word key.IterArgs) = 58
+class_number (class.Word key.Else) = 59
+class_number (class.Word key.Into) = 60
+class_number (class.Word key.From) = 61
+class_number (class.Word key.Min) = 62
+class_number (class.Word key.Max) = 63
+class_number (class.Word key.Terminator) = 64
+class_number (class.Word key.Overflowing) = 65
+class_number (class.Word key.Binary) = 66
+class_number (class.Word key.Cast) = 67
+class_number (class.Word key.MapOp) = 68
+class_number (class.Word key.Bool) = 69
+class_number (class.Word key.Visibility) = 70
+class_number (class.Word key.OverflowFlag) = 71
+class_number (class.Word key.Division) = 72
+class_number (class.Word key.Kind) = 73
+class_number (class.Word key.Predicate) = 74
+class_number class.Scalar = 75
+class_number class.OtherWord = 76
+class_number class.Zero = 77
+class_number class.Positive = 78
+class_number class.DimX = 79
+class_number class.ScalX = 80
+class_number class.ValId = 81
+class_number class.SymId = 82
+class_number class.HashDigits = 83
+class_number class.HashWord = 84
+class_number class.HashOther = 85
+class_number class.CaretId = 86
+class_number class.QuotedModule = 87
+class_number class.QuotedFunc = 88
+class_number class.Quoted = 89
 
 unfoldable pub all_classes : List Class
 all_classes =
@@ -109,25 +150,59 @@ all_classes =
     (class.Word key.Module) ∷
     (class.Word key.FuncFunc) ∷
     (class.Word key.ArithConstant) ∷
+    (class.Word key.ArithCmpi) ∷
+    (class.Word key.ArithSelect) ∷
     (class.Word key.AffineFor) ∷
+    (class.Word key.AffineIf) ∷
     (class.Word key.AffineLoad) ∷
     (class.Word key.AffineStore) ∷
+    (class.Word key.MemRefLoad) ∷
+    (class.Word key.MemRefStore) ∷
+    (class.Word key.MemRefDim) ∷
+    (class.Word key.ScfFor) ∷
+    (class.Word key.VectorLoad) ∷
+    (class.Word key.VectorStore) ∷
+    (class.Word key.VectorMaskedLoad) ∷
+    (class.Word key.VectorMaskedStore) ∷
+    (class.Word key.VectorBroadcast) ∷
+    (class.Word key.VectorCreateMask) ∷
+    (class.Word key.VectorReduction) ∷
+    (class.Word key.VectorExtract) ∷
+    (class.Word key.VectorInsert) ∷
+    (class.Word key.VectorShuffle) ∷
+    (class.Word key.VectorStep) ∷
+    (class.Word key.VectorVscale) ∷
     (class.Word key.MemRef) ∷
+    (class.Word key.Vector) ∷
+    (class.Word key.Strided) ∷
+    (class.Word key.Offset) ∷
     (class.Word key.AffineMap) ∷
+    (class.Word key.AffineSet) ∷
+    (class.Word key.Array) ∷
+    (class.Word key.Dense) ∷
+    (class.Word key.FunctionType) ∷
     (class.Word key.Symbol) ∷
     (class.Word key.Overflow) ∷
     (class.Word key.Attributes) ∷
     (class.Word key.To) ∷
     (class.Word key.Step) ∷
     (class.Word key.IterArgs) ∷
+    (class.Word key.Else) ∷
+    (class.Word key.Into) ∷
+    (class.Word key.From) ∷
     (class.Word key.Min) ∷
     (class.Word key.Max) ∷
-    (class.Word key.FunctionType) ∷
     (class.Word key.Terminator) ∷
     (class.Word key.Overflowing) ∷
+    (class.Word key.Binary) ∷
+    (class.Word key.Cast) ∷
+    (class.Word key.MapOp) ∷
+    (class.Word key.Bool) ∷
     (class.Word key.Visibility) ∷
     (class.Word key.OverflowFlag) ∷
     (class.Word key.Division) ∷
+    (class.Word key.Kind) ∷
+    (class.Word key.Predicate) ∷
     class.Scalar ∷
     class.OtherWord ∷
     class.Zero ∷
@@ -140,178 +215,300 @@ all_classes =
     class.HashWord ∷
     class.HashOther ∷
     class.CaretId ∷
+    class.QuotedModule ∷
+    class.QuotedFunc ∷
     class.Quoted ∷
     []
 
 unfoldable pub rule_number : Rule → ℕ
 rule_number (rule.File file.WholeFile) = 0
 rule_number (rule.File file.NoMoreAliases) = 1
-rule_number (rule.File file.NoContent) = 2
-rule_number (rule.File file.NamedContent) = 3
-rule_number (rule.File file.PlainContent) = 4
-rule_number (rule.File file.OnlyModule) = 5
-rule_number (rule.File file.FirstFunction) = 6
-rule_number (rule.File file.NoMoreFunctions) = 7
-rule_number (rule.File file.NextNamedFunction) = 8
-rule_number (rule.File file.NextFunction) = 9
-rule_number (rule.File file.WrittenFunction) = 10
-rule_number (rule.Function functions.BuiltinModule) = 11
-rule_number (rule.Function functions.NoSymbol) = 12
-rule_number (rule.Function functions.WrittenSymbol) = 13
-rule_number (rule.Function functions.FuncFunc) = 14
-rule_number (rule.Function functions.NoVisibility) = 15
-rule_number (rule.Function functions.WrittenVisibility) = 16
-rule_number (rule.Function functions.NoFunctionArguments) = 17
-rule_number (rule.Function functions.FirstFunctionArgument) = 18
-rule_number (rule.Function functions.NoMoreFunctionArguments) = 19
-rule_number (rule.Function functions.NextFunctionArgument) = 20
-rule_number (rule.Function functions.ArgumentOfFunction) = 21
-rule_number (rule.Function functions.ModuleForm) = 22
-rule_number (rule.Function functions.FunctionForm) = 23
-rule_number (rule.Region regions.NoMoreOperations) = 24
-rule_number (rule.Region regions.WithResults) = 25
-rule_number (rule.Region regions.WithoutResults) = 26
-rule_number (rule.Region regions.PlainOperation) = 27
-rule_number (rule.Region regions.TerminatorOperation) = 28
-rule_number (rule.Region regions.TerminatorWithValues) = 29
-rule_number (rule.Region regions.TerminatorLast) = 30
-rule_number (rule.Region regions.TerminatorThenOperation) = 31
-rule_number (rule.Region regions.ValuesAndTypes) = 32
-rule_number (rule.Region regions.NamedRegion) = 33
-rule_number (rule.Type types.ScalarType) = 34
-rule_number (rule.Type types.BufferType) = 35
-rule_number (rule.Type types.MemRefType) = 36
-rule_number (rule.Type types.NoMoreSizes) = 37
-rule_number (rule.Type types.NextSize) = 38
-rule_number (rule.Type types.NoTypes) = 39
-rule_number (rule.Type types.FirstType) = 40
-rule_number (rule.Type types.NoMoreTypes) = 41
-rule_number (rule.Type types.NextType) = 42
-rule_number (rule.Type types.OneResultType) = 43
-rule_number (rule.Type types.ResultTypeList) = 44
-rule_number (rule.Type types.NoResultTypes) = 45
-rule_number (rule.Type types.WrittenResultTypes) = 46
-rule_number (rule.Type types.NoLayout) = 47
-rule_number (rule.Attribute attributes.NumberAttribute) = 48
-rule_number (rule.Attribute attributes.NoNumberType) = 49
-rule_number (rule.Attribute attributes.WrittenNumberType) = 50
-rule_number (rule.Attribute attributes.WrittenDictionary) = 51
-rule_number (rule.Attribute attributes.NoEntries) = 52
-rule_number (rule.Attribute attributes.FirstEntry) = 53
-rule_number (rule.Attribute attributes.NoMoreEntries) = 54
-rule_number (rule.Attribute attributes.NextEntry) = 55
-rule_number (rule.Attribute attributes.PlainEntry) = 56
-rule_number (rule.Attribute attributes.UnitEntry) = 57
-rule_number (rule.Attribute attributes.WrittenEntry) = 58
-rule_number (rule.Attribute attributes.NoDictionary) = 59
-rule_number (rule.Attribute attributes.DictionaryHere) = 60
-rule_number (rule.Attribute attributes.NoAttributesPart) = 61
-rule_number (rule.Attribute attributes.AttributesPart) = 62
-rule_number (rule.Map maps.WrittenMap) = 63
-rule_number (rule.Map maps.DimensionNames) = 64
-rule_number (rule.Map maps.NoSymbolNames) = 65
-rule_number (rule.Map maps.WrittenSymbolNames) = 66
-rule_number (rule.Map maps.NoWords) = 67
-rule_number (rule.Map maps.FirstWord) = 68
-rule_number (rule.Map maps.NoMoreWords) = 69
-rule_number (rule.Map maps.NextWord) = 70
-rule_number (rule.Map maps.NoExpressions) = 71
-rule_number (rule.Map maps.FirstExpression) = 72
-rule_number (rule.Map maps.NoMoreExpressions) = 73
-rule_number (rule.Map maps.NextExpression) = 74
-rule_number (rule.Map maps.WholeExpression) = 75
-rule_number (rule.Map maps.NoMoreTerms) = 76
-rule_number (rule.Map maps.PlusTerm) = 77
-rule_number (rule.Map maps.MinusTerm) = 78
-rule_number (rule.Map maps.WholeTerm) = 79
-rule_number (rule.Map maps.NoMoreFactors) = 80
-rule_number (rule.Map maps.TimesFactor) = 81
-rule_number (rule.Map maps.DivisionFactor) = 82
-rule_number (rule.Map maps.NumberFactor) = 83
-rule_number (rule.Map maps.PlainFactor) = 84
-rule_number (rule.Map maps.MinusFactor) = 85
-rule_number (rule.Map maps.NegativeNumber) = 86
-rule_number (rule.Map maps.NegatedBase) = 87
-rule_number (rule.Map maps.ParameterName) = 88
-rule_number (rule.Map maps.DivisionName) = 89
-rule_number (rule.Map maps.InBrackets) = 90
-rule_number (rule.Value values.NamedValue) = 91
-rule_number (rule.Value values.NoResultNumber) = 92
-rule_number (rule.Value values.WrittenResultNumber) = 93
-rule_number (rule.Value values.NoValues) = 94
-rule_number (rule.Value values.FirstValue) = 95
-rule_number (rule.Value values.NoMoreValues) = 96
-rule_number (rule.Value values.NextValue) = 97
-rule_number (rule.Value values.PlainInteger) = 98
-rule_number (rule.Value values.NegativeInteger) = 99
-rule_number (rule.Value values.ResultNames) = 100
-rule_number (rule.Value values.NoMoreResults) = 101
-rule_number (rule.Value values.NextResult) = 102
-rule_number (rule.Value values.OneResult) = 103
-rule_number (rule.Value values.CountedResults) = 104
-rule_number (rule.Arith arith.ArithConstant) = 105
-rule_number (rule.Arith arith.NumberConstant) = 106
-rule_number (rule.Arith arith.ArithOverflowing) = 107
-rule_number (rule.Arith arith.NoOverflow) = 108
-rule_number (rule.Arith arith.WrittenOverflow) = 109
-rule_number (rule.Arith arith.NoMoreOverflowFlags) = 110
-rule_number (rule.Arith arith.NextOverflowFlag) = 111
-rule_number (rule.Affine affine.AffineFor) = 112
-rule_number (rule.Affine affine.AffineLoad) = 113
-rule_number (rule.Affine affine.AffineStore) = 114
-rule_number (rule.Affine affine.GreatestOf) = 115
-rule_number (rule.Affine affine.PlainLowerBound) = 116
-rule_number (rule.Affine affine.LeastOf) = 117
-rule_number (rule.Affine affine.PlainUpperBound) = 118
-rule_number (rule.Affine affine.NumberBound) = 119
-rule_number (rule.Affine affine.ValueBound) = 120
-rule_number (rule.Affine affine.MapBound) = 121
-rule_number (rule.Affine affine.NoStep) = 122
-rule_number (rule.Affine affine.WrittenStep) = 123
-rule_number (rule.Affine affine.NoIterArgs) = 124
-rule_number (rule.Affine affine.WrittenIterArgs) = 125
-rule_number (rule.Affine affine.NoCarried) = 126
-rule_number (rule.Affine affine.FirstCarried) = 127
-rule_number (rule.Affine affine.NoMoreCarried) = 128
-rule_number (rule.Affine affine.NextCarried) = 129
-rule_number (rule.Affine affine.MapWritten) = 130
-rule_number (rule.Affine affine.DimensionOperands) = 131
-rule_number (rule.Affine affine.NoSymbolOperands) = 132
-rule_number (rule.Affine affine.WrittenSymbolOperands) = 133
-rule_number (rule.Subscript subscripts.NoSubscripts) = 134
-rule_number (rule.Subscript subscripts.FirstSubscript) = 135
-rule_number (rule.Subscript subscripts.NoMoreSubscripts) = 136
-rule_number (rule.Subscript subscripts.NextSubscript) = 137
-rule_number (rule.Subscript subscripts.WholeSubscript) = 138
-rule_number (rule.Subscript subscripts.NoMoreSubscriptTerms) = 139
-rule_number (rule.Subscript subscripts.PlusSubscriptTerm) = 140
-rule_number (rule.Subscript subscripts.MinusSubscriptTerm) = 141
-rule_number (rule.Subscript subscripts.WholeSubscriptTerm) = 142
-rule_number (rule.Subscript subscripts.NoMoreSubscriptFactors) = 143
-rule_number (rule.Subscript subscripts.TimesSubscriptFactor) = 144
-rule_number (rule.Subscript subscripts.DivisionSubscriptFactor) = 145
-rule_number (rule.Subscript subscripts.NumberSubscriptFactor) = 146
-rule_number (rule.Subscript subscripts.PlainSubscriptFactor) = 147
-rule_number (rule.Subscript subscripts.MinusSubscriptFactor) = 148
-rule_number (rule.Subscript subscripts.NegativeSubscriptNumber) = 149
-rule_number (rule.Subscript subscripts.NegatedSubscriptBase) = 150
-rule_number (rule.Subscript subscripts.DimensionValue) = 151
-rule_number (rule.Subscript subscripts.SymbolValue) = 152
-rule_number (rule.Subscript subscripts.SubscriptInBrackets) = 153
+rule_number (rule.File file.NextAlias) = 2
+rule_number (rule.File file.AliasOfMap) = 3
+rule_number (rule.File file.AliasOfSet) = 4
+rule_number (rule.File file.NoContent) = 5
+rule_number (rule.File file.NamedContent) = 6
+rule_number (rule.File file.PlainContent) = 7
+rule_number (rule.File file.OnlyModule) = 8
+rule_number (rule.File file.OnlyGenericModule) = 9
+rule_number (rule.File file.FirstFunction) = 10
+rule_number (rule.File file.NoMoreFunctions) = 11
+rule_number (rule.File file.NextNamedFunction) = 12
+rule_number (rule.File file.NextFunction) = 13
+rule_number (rule.File file.WrittenFunction) = 14
+rule_number (rule.File file.GenericFunction) = 15
+rule_number (rule.Function functions.BuiltinModule) = 16
+rule_number (rule.Function functions.NoSymbol) = 17
+rule_number (rule.Function functions.WrittenSymbol) = 18
+rule_number (rule.Function functions.FuncFunc) = 19
+rule_number (rule.Function functions.NoVisibility) = 20
+rule_number (rule.Function functions.WrittenVisibility) = 21
+rule_number (rule.Function functions.NoFunctionArguments) = 22
+rule_number (rule.Function functions.FirstFunctionArgument) = 23
+rule_number (rule.Function functions.NoMoreFunctionArguments) = 24
+rule_number (rule.Function functions.NextFunctionArgument) = 25
+rule_number (rule.Function functions.ArgumentOfFunction) = 26
+rule_number (rule.Function functions.ModuleForm) = 27
+rule_number (rule.Function functions.FunctionForm) = 28
+rule_number (rule.Region regions.NoMoreOperations) = 29
+rule_number (rule.Region regions.WithResults) = 30
+rule_number (rule.Region regions.WithoutResults) = 31
+rule_number (rule.Region regions.PlainOperation) = 32
+rule_number (rule.Region regions.TerminatorOperation) = 33
+rule_number (rule.Region regions.TerminatorWithValues) = 34
+rule_number (rule.Region regions.TerminatorLast) = 35
+rule_number (rule.Region regions.TerminatorThenOperation) = 36
+rule_number (rule.Region regions.ValuesAndTypes) = 37
+rule_number (rule.Region regions.NamedRegion) = 38
+rule_number (rule.Generic generic.GenericForm) = 39
+rule_number (rule.Generic generic.WholeGeneric) = 40
+rule_number (rule.Generic generic.NoProperties) = 41
+rule_number (rule.Generic generic.WrittenProperties) = 42
+rule_number (rule.Generic generic.NoRegions) = 43
+rule_number (rule.Generic generic.WrittenRegions) = 44
+rule_number (rule.Generic generic.NoMoreRegions) = 45
+rule_number (rule.Generic generic.NextRegion) = 46
+rule_number (rule.Generic generic.LabelledRegion) = 47
+rule_number (rule.Generic generic.NoLabel) = 48
+rule_number (rule.Generic generic.BlockLabel) = 49
+rule_number (rule.Generic generic.NoArguments) = 50
+rule_number (rule.Generic generic.FirstArgument) = 51
+rule_number (rule.Generic generic.NoMoreArguments) = 52
+rule_number (rule.Generic generic.NextArgument) = 53
+rule_number (rule.Type types.ScalarType) = 54
+rule_number (rule.Type types.BufferType) = 55
+rule_number (rule.Type types.TileType) = 56
+rule_number (rule.Type types.MemRefType) = 57
+rule_number (rule.Type types.NoMoreSizes) = 58
+rule_number (rule.Type types.NextSize) = 59
+rule_number (rule.Type types.VectorType) = 60
+rule_number (rule.Type types.NoMoreDims) = 61
+rule_number (rule.Type types.FixedDim) = 62
+rule_number (rule.Type types.ScalableDim) = 63
+rule_number (rule.Type types.NoTypes) = 64
+rule_number (rule.Type types.FirstType) = 65
+rule_number (rule.Type types.NoMoreTypes) = 66
+rule_number (rule.Type types.NextType) = 67
+rule_number (rule.Type types.OneResultType) = 68
+rule_number (rule.Type types.ResultTypeList) = 69
+rule_number (rule.Type types.NoResultTypes) = 70
+rule_number (rule.Type types.WrittenResultTypes) = 71
+rule_number (rule.Type types.NoLayout) = 72
+rule_number (rule.Type types.StridedLayout) = 73
+rule_number (rule.Type types.NoStrides) = 74
+rule_number (rule.Type types.FirstStride) = 75
+rule_number (rule.Type types.NoMoreStrides) = 76
+rule_number (rule.Type types.NextStride) = 77
+rule_number (rule.Type types.StaticStride) = 78
+rule_number (rule.Type types.DynamicStride) = 79
+rule_number (rule.Type types.NoOffset) = 80
+rule_number (rule.Type types.WrittenOffset) = 81
+rule_number (rule.Attribute attributes.NumberAttribute) = 82
+rule_number (rule.Attribute attributes.BoolAttribute) = 83
+rule_number (rule.Attribute attributes.StringAttribute) = 84
+rule_number (rule.Attribute attributes.SymbolAttribute) = 85
+rule_number (rule.Attribute attributes.TypeAttribute) = 86
+rule_number (rule.Attribute attributes.MapAttribute) = 87
+rule_number (rule.Attribute attributes.SetAttribute) = 88
+rule_number (rule.Attribute attributes.AliasAttribute) = 89
+rule_number (rule.Attribute attributes.HashAttribute) = 90
+rule_number (rule.Attribute attributes.ListAttribute) = 91
+rule_number (rule.Attribute attributes.DictionaryAttribute) = 92
+rule_number (rule.Attribute attributes.ArrayAttribute) = 93
+rule_number (rule.Attribute attributes.DenseAttribute) = 94
+rule_number (rule.Attribute attributes.NoNumberType) = 95
+rule_number (rule.Attribute attributes.WrittenNumberType) = 96
+rule_number (rule.Attribute attributes.NoHashWords) = 97
+rule_number (rule.Attribute attributes.WrittenHashWords) = 98
+rule_number (rule.Attribute attributes.NoAttributes) = 99
+rule_number (rule.Attribute attributes.FirstAttribute) = 100
+rule_number (rule.Attribute attributes.NoMoreAttributes) = 101
+rule_number (rule.Attribute attributes.NextAttribute) = 102
+rule_number (rule.Attribute attributes.NoArrayNumbers) = 103
+rule_number (rule.Attribute attributes.WrittenArrayNumbers) = 104
+rule_number (rule.Attribute attributes.DenseElements) = 105
+rule_number (rule.Attribute attributes.NumberElement) = 106
+rule_number (rule.Attribute attributes.BoolElement) = 107
+rule_number (rule.Attribute attributes.ListElement) = 108
+rule_number (rule.Attribute attributes.NoElements) = 109
+rule_number (rule.Attribute attributes.FirstElement) = 110
+rule_number (rule.Attribute attributes.NoMoreElements) = 111
+rule_number (rule.Attribute attributes.NextElement) = 112
+rule_number (rule.Attribute attributes.WrittenDictionary) = 113
+rule_number (rule.Attribute attributes.NoEntries) = 114
+rule_number (rule.Attribute attributes.FirstEntry) = 115
+rule_number (rule.Attribute attributes.NoMoreEntries) = 116
+rule_number (rule.Attribute attributes.NextEntry) = 117
+rule_number (rule.Attribute attributes.PlainEntry) = 118
+rule_number (rule.Attribute attributes.FunctionTypeEntry) = 119
+rule_number (rule.Attribute attributes.UnitEntry) = 120
+rule_number (rule.Attribute attributes.WrittenEntry) = 121
+rule_number (rule.Attribute attributes.UnitFunctionType) = 122
+rule_number (rule.Attribute attributes.WrittenFunctionType) = 123
+rule_number (rule.Attribute attributes.NoFunctionType) = 124
+rule_number (rule.Attribute attributes.FunctionType) = 125
+rule_number (rule.Attribute attributes.NoDictionary) = 126
+rule_number (rule.Attribute attributes.DictionaryHere) = 127
+rule_number (rule.Attribute attributes.NoAttributesPart) = 128
+rule_number (rule.Attribute attributes.AttributesPart) = 129
+rule_number (rule.Map maps.WrittenMap) = 130
+rule_number (rule.Map maps.WrittenSet) = 131
+rule_number (rule.Map maps.DimensionNames) = 132
+rule_number (rule.Map maps.NoSymbolNames) = 133
+rule_number (rule.Map maps.WrittenSymbolNames) = 134
+rule_number (rule.Map maps.NoWords) = 135
+rule_number (rule.Map maps.FirstWord) = 136
+rule_number (rule.Map maps.NoMoreWords) = 137
+rule_number (rule.Map maps.NextWord) = 138
+rule_number (rule.Map maps.NoExpressions) = 139
+rule_number (rule.Map maps.FirstExpression) = 140
+rule_number (rule.Map maps.NoMoreExpressions) = 141
+rule_number (rule.Map maps.NextExpression) = 142
+rule_number (rule.Map maps.NoSetRows) = 143
+rule_number (rule.Map maps.FirstSetRow) = 144
+rule_number (rule.Map maps.NoMoreSetRows) = 145
+rule_number (rule.Map maps.NextSetRow) = 146
+rule_number (rule.Map maps.RowOfSet) = 147
+rule_number (rule.Map maps.AtLeastZero) = 148
+rule_number (rule.Map maps.EqualToZero) = 149
+rule_number (rule.Map maps.WholeExpression) = 150
+rule_number (rule.Map maps.NoMoreTerms) = 151
+rule_number (rule.Map maps.PlusTerm) = 152
+rule_number (rule.Map maps.MinusTerm) = 153
+rule_number (rule.Map maps.WholeTerm) = 154
+rule_number (rule.Map maps.NoMoreFactors) = 155
+rule_number (rule.Map maps.TimesFactor) = 156
+rule_number (rule.Map maps.DivisionFactor) = 157
+rule_number (rule.Map maps.NumberFactor) = 158
+rule_number (rule.Map maps.PlainFactor) = 159
+rule_number (rule.Map maps.MinusFactor) = 160
+rule_number (rule.Map maps.NegativeNumber) = 161
+rule_number (rule.Map maps.NegatedBase) = 162
+rule_number (rule.Map maps.ParameterName) = 163
+rule_number (rule.Map maps.DivisionName) = 164
+rule_number (rule.Map maps.InBrackets) = 165
+rule_number (rule.Value values.NamedValue) = 166
+rule_number (rule.Value values.NoResultNumber) = 167
+rule_number (rule.Value values.WrittenResultNumber) = 168
+rule_number (rule.Value values.NoValues) = 169
+rule_number (rule.Value values.FirstValue) = 170
+rule_number (rule.Value values.NoMoreValues) = 171
+rule_number (rule.Value values.NextValue) = 172
+rule_number (rule.Value values.NoFurtherValue) = 173
+rule_number (rule.Value values.FurtherValue) = 174
+rule_number (rule.Value values.PlainInteger) = 175
+rule_number (rule.Value values.NegativeInteger) = 176
+rule_number (rule.Value values.NoIntegers) = 177
+rule_number (rule.Value values.FirstInteger) = 178
+rule_number (rule.Value values.NoMoreIntegers) = 179
+rule_number (rule.Value values.NextInteger) = 180
+rule_number (rule.Value values.ResultNames) = 181
+rule_number (rule.Value values.NoMoreResults) = 182
+rule_number (rule.Value values.NextResult) = 183
+rule_number (rule.Value values.OneResult) = 184
+rule_number (rule.Value values.CountedResults) = 185
+rule_number (rule.Arith arith.ArithConstant) = 186
+rule_number (rule.Arith arith.ArithOverflowing) = 187
+rule_number (rule.Arith arith.ArithBinary) = 188
+rule_number (rule.Arith arith.ArithCmpi) = 189
+rule_number (rule.Arith arith.ArithSelect) = 190
+rule_number (rule.Arith arith.ArithCast) = 191
+rule_number (rule.Arith arith.BoolConstant) = 192
+rule_number (rule.Arith arith.NumberConstant) = 193
+rule_number (rule.Arith arith.DenseConstant) = 194
+rule_number (rule.Arith arith.NoOverflow) = 195
+rule_number (rule.Arith arith.WrittenOverflow) = 196
+rule_number (rule.Arith arith.NoMoreOverflowFlags) = 197
+rule_number (rule.Arith arith.NextOverflowFlag) = 198
+rule_number (rule.Arith arith.ScalarSelected) = 199
+rule_number (rule.Arith arith.BufferSelected) = 200
+rule_number (rule.Arith arith.VectorThenSelected) = 201
+rule_number (rule.Arith arith.OnlySelected) = 202
+rule_number (rule.Arith arith.SelectedByVector) = 203
+rule_number (rule.Affine affine.AffineFor) = 204
+rule_number (rule.Affine affine.AffineIf) = 205
+rule_number (rule.Affine affine.AffineMapOp) = 206
+rule_number (rule.Affine affine.AffineLoad) = 207
+rule_number (rule.Affine affine.AffineStore) = 208
+rule_number (rule.Affine affine.GreatestOf) = 209
+rule_number (rule.Affine affine.PlainLowerBound) = 210
+rule_number (rule.Affine affine.LeastOf) = 211
+rule_number (rule.Affine affine.PlainUpperBound) = 212
+rule_number (rule.Affine affine.NumberBound) = 213
+rule_number (rule.Affine affine.ValueBound) = 214
+rule_number (rule.Affine affine.MapBound) = 215
+rule_number (rule.Affine affine.NoStep) = 216
+rule_number (rule.Affine affine.WrittenStep) = 217
+rule_number (rule.Affine affine.NoIterArgs) = 218
+rule_number (rule.Affine affine.WrittenIterArgs) = 219
+rule_number (rule.Affine affine.NoCarried) = 220
+rule_number (rule.Affine affine.FirstCarried) = 221
+rule_number (rule.Affine affine.NoMoreCarried) = 222
+rule_number (rule.Affine affine.NextCarried) = 223
+rule_number (rule.Affine affine.MapWritten) = 224
+rule_number (rule.Affine affine.MapByAlias) = 225
+rule_number (rule.Affine affine.SetWritten) = 226
+rule_number (rule.Affine affine.SetByAlias) = 227
+rule_number (rule.Affine affine.DimensionOperands) = 228
+rule_number (rule.Affine affine.NoSymbolOperands) = 229
+rule_number (rule.Affine affine.WrittenSymbolOperands) = 230
+rule_number (rule.Affine affine.NoElse) = 231
+rule_number (rule.Affine affine.WrittenElse) = 232
+rule_number (rule.Subscript subscripts.NoSubscripts) = 233
+rule_number (rule.Subscript subscripts.FirstSubscript) = 234
+rule_number (rule.Subscript subscripts.NoMoreSubscripts) = 235
+rule_number (rule.Subscript subscripts.NextSubscript) = 236
+rule_number (rule.Subscript subscripts.WholeSubscript) = 237
+rule_number (rule.Subscript subscripts.NoMoreSubscriptTerms) = 238
+rule_number (rule.Subscript subscripts.PlusSubscriptTerm) = 239
+rule_number (rule.Subscript subscripts.MinusSubscriptTerm) = 240
+rule_number (rule.Subscript subscripts.WholeSubscriptTerm) = 241
+rule_number (rule.Subscript subscripts.NoMoreSubscriptFactors) = 242
+rule_number (rule.Subscript subscripts.TimesSubscriptFactor) = 243
+rule_number (rule.Subscript subscripts.DivisionSubscriptFactor) = 244
+rule_number (rule.Subscript subscripts.NumberSubscriptFactor) = 245
+rule_number (rule.Subscript subscripts.PlainSubscriptFactor) = 246
+rule_number (rule.Subscript subscripts.MinusSubscriptFactor) = 247
+rule_number (rule.Subscript subscripts.NegativeSubscriptNumber) = 248
+rule_number (rule.Subscript subscripts.NegatedSubscriptBase) = 249
+rule_number (rule.Subscript subscripts.DimensionValue) = 250
+rule_number (rule.Subscript subscripts.SymbolValue) = 251
+rule_number (rule.Subscript subscripts.SubscriptInBrackets) = 252
+rule_number (rule.MemRef memref.MemRefLoad) = 253
+rule_number (rule.MemRef memref.MemRefStore) = 254
+rule_number (rule.MemRef memref.MemRefDim) = 255
+rule_number (rule.Scf scf.ScfFor) = 256
+rule_number (rule.Vector vector.VectorLoad) = 257
+rule_number (rule.Vector vector.VectorStore) = 258
+rule_number (rule.Vector vector.VectorMaskedLoad) = 259
+rule_number (rule.Vector vector.VectorMaskedStore) = 260
+rule_number (rule.Vector vector.VectorBroadcast) = 261
+rule_number (rule.Vector vector.VectorCreateMask) = 262
+rule_number (rule.Vector vector.VectorReduction) = 263
+rule_number (rule.Vector vector.VectorExtract) = 264
+rule_number (rule.Vector vector.VectorInsert) = 265
+rule_number (rule.Vector vector.VectorShuffle) = 266
+rule_number (rule.Vector vector.VectorStep) = 267
+rule_number (rule.Vector vector.VectorVscale) = 268
 
 unfoldable pub all_rules : List Rule
 all_rules =
     rule.File file.WholeFile ∷
     rule.File file.NoMoreAliases ∷
+    rule.File file.NextAlias ∷
+    rule.File file.AliasOfMap ∷
+    rule.File file.AliasOfSet ∷
     rule.File file.NoContent ∷
     rule.File file.NamedContent ∷
     rule.File file.PlainContent ∷
     rule.File file.OnlyModule ∷
+    rule.File file.OnlyGenericModule ∷
     rule.File file.FirstFunction ∷
     rule.File file.NoMoreFunctions ∷
     rule.File file.NextNamedFunction ∷
     rule.File file.NextFunction ∷
     rule.File file.WrittenFunction ∷
+    rule.File file.GenericFunction ∷
     rule.Function functions.BuiltinModule ∷
     rule.Function functions.NoSymbol ∷
     rule.Function functions.WrittenSymbol ∷
@@ -335,11 +532,31 @@ all_rules =
     rule.Region regions.TerminatorThenOperation ∷
     rule.Region regions.ValuesAndTypes ∷
     rule.Region regions.NamedRegion ∷
+    rule.Generic generic.GenericForm ∷
+    rule.Generic generic.WholeGeneric ∷
+    rule.Generic generic.NoProperties ∷
+    rule.Generic generic.WrittenProperties ∷
+    rule.Generic generic.NoRegions ∷
+    rule.Generic generic.WrittenRegions ∷
+    rule.Generic generic.NoMoreRegions ∷
+    rule.Generic generic.NextRegion ∷
+    rule.Generic generic.LabelledRegion ∷
+    rule.Generic generic.NoLabel ∷
+    rule.Generic generic.BlockLabel ∷
+    rule.Generic generic.NoArguments ∷
+    rule.Generic generic.FirstArgument ∷
+    rule.Generic generic.NoMoreArguments ∷
+    rule.Generic generic.NextArgument ∷
     rule.Type types.ScalarType ∷
     rule.Type types.BufferType ∷
+    rule.Type types.TileType ∷
     rule.Type types.MemRefType ∷
     rule.Type types.NoMoreSizes ∷
     rule.Type types.NextSize ∷
+    rule.Type types.VectorType ∷
+    rule.Type types.NoMoreDims ∷
+    rule.Type types.FixedDim ∷
+    rule.Type types.ScalableDim ∷
     rule.Type types.NoTypes ∷
     rule.Type types.FirstType ∷
     rule.Type types.NoMoreTypes ∷
@@ -349,22 +566,65 @@ all_rules =
     rule.Type types.NoResultTypes ∷
     rule.Type types.WrittenResultTypes ∷
     rule.Type types.NoLayout ∷
+    rule.Type types.StridedLayout ∷
+    rule.Type types.NoStrides ∷
+    rule.Type types.FirstStride ∷
+    rule.Type types.NoMoreStrides ∷
+    rule.Type types.NextStride ∷
+    rule.Type types.StaticStride ∷
+    rule.Type types.DynamicStride ∷
+    rule.Type types.NoOffset ∷
+    rule.Type types.WrittenOffset ∷
     rule.Attribute attributes.NumberAttribute ∷
+    rule.Attribute attributes.BoolAttribute ∷
+    rule.Attribute attributes.StringAttribute ∷
+    rule.Attribute attributes.SymbolAttribute ∷
+    rule.Attribute attributes.TypeAttribute ∷
+    rule.Attribute attributes.MapAttribute ∷
+    rule.Attribute attributes.SetAttribute ∷
+    rule.Attribute attributes.AliasAttribute ∷
+    rule.Attribute attributes.HashAttribute ∷
+    rule.Attribute attributes.ListAttribute ∷
+    rule.Attribute attributes.DictionaryAttribute ∷
+    rule.Attribute attributes.ArrayAttribute ∷
+    rule.Attribute attributes.DenseAttribute ∷
     rule.Attribute attributes.NoNumberType ∷
     rule.Attribute attributes.WrittenNumberType ∷
+    rule.Attribute attributes.NoHashWords ∷
+    rule.Attribute attributes.WrittenHashWords ∷
+    rule.Attribute attributes.NoAttributes ∷
+    rule.Attribute attributes.FirstAttribute ∷
+    rule.Attribute attributes.NoMoreAttributes ∷
+    rule.Attribute attributes.NextAttribute ∷
+    rule.Attribute attributes.NoArrayNumbers ∷
+    rule.Attribute attributes.WrittenArrayNumbers ∷
+    rule.Attribute attributes.DenseElements ∷
+    rule.Attribute attributes.NumberElement ∷
+    rule.Attribute attributes.BoolElement ∷
+    rule.Attribute attributes.ListElement ∷
+    rule.Attribute attributes.NoElements ∷
+    rule.Attribute attributes.FirstElement ∷
+    rule.Attribute attributes.NoMoreElements ∷
+    rule.Attribute attributes.NextElement ∷
     rule.Attribute attributes.WrittenDictionary ∷
     rule.Attribute attributes.NoEntries ∷
     rule.Attribute attributes.FirstEntry ∷
     rule.Attribute attributes.NoMoreEntries ∷
     rule.Attribute attributes.NextEntry ∷
     rule.Attribute attributes.PlainEntry ∷
+    rule.Attribute attributes.FunctionTypeEntry ∷
     rule.Attribute attributes.UnitEntry ∷
     rule.Attribute attributes.WrittenEntry ∷
+    rule.Attribute attributes.UnitFunctionType ∷
+    rule.Attribute attributes.WrittenFunctionType ∷
+    rule.Attribute attributes.NoFunctionType ∷
+    rule.Attribute attributes.FunctionType ∷
     rule.Attribute attributes.NoDictionary ∷
     rule.Attribute attributes.DictionaryHere ∷
     rule.Attribute attributes.NoAttributesPart ∷
     rule.Attribute attributes.AttributesPart ∷
     rule.Map maps.WrittenMap ∷
+    rule.Map maps.WrittenSet ∷
     rule.Map maps.DimensionNames ∷
     rule.Map maps.NoSymbolNames ∷
     rule.Map maps.WrittenSymbolNames ∷
@@ -376,6 +636,13 @@ all_rules =
     rule.Map maps.FirstExpression ∷
     rule.Map maps.NoMoreExpressions ∷
     rule.Map maps.NextExpression ∷
+    rule.Map maps.NoSetRows ∷
+    rule.Map maps.FirstSetRow ∷
+    rule.Map maps.NoMoreSetRows ∷
+    rule.Map maps.NextSetRow ∷
+    rule.Map maps.RowOfSet ∷
+    rule.Map maps.AtLeastZero ∷
+    rule.Map maps.EqualToZero ∷
     rule.Map maps.WholeExpression ∷
     rule.Map maps.NoMoreTerms ∷
     rule.Map maps.PlusTerm ∷
@@ -399,21 +666,40 @@ all_rules =
     rule.Value values.FirstValue ∷
     rule.Value values.NoMoreValues ∷
     rule.Value values.NextValue ∷
+    rule.Value values.NoFurtherValue ∷
+    rule.Value values.FurtherValue ∷
     rule.Value values.PlainInteger ∷
     rule.Value values.NegativeInteger ∷
+    rule.Value values.NoIntegers ∷
+    rule.Value values.FirstInteger ∷
+    rule.Value values.NoMoreIntegers ∷
+    rule.Value values.NextInteger ∷
     rule.Value values.ResultNames ∷
     rule.Value values.NoMoreResults ∷
     rule.Value values.NextResult ∷
     rule.Value values.OneResult ∷
     rule.Value values.CountedResults ∷
     rule.Arith arith.ArithConstant ∷
-    rule.Arith arith.NumberConstant ∷
     rule.Arith arith.ArithOverflowing ∷
+    rule.Arith arith.ArithBinary ∷
+    rule.Arith arith.ArithCmpi ∷
+    rule.Arith arith.ArithSelect ∷
+    rule.Arith arith.ArithCast ∷
+    rule.Arith arith.BoolConstant ∷
+    rule.Arith arith.NumberConstant ∷
+    rule.Arith arith.DenseConstant ∷
     rule.Arith arith.NoOverflow ∷
     rule.Arith arith.WrittenOverflow ∷
     rule.Arith arith.NoMoreOverflowFlags ∷
     rule.Arith arith.NextOverflowFlag ∷
+    rule.Arith arith.ScalarSelected ∷
+    rule.Arith arith.BufferSelected ∷
+    rule.Arith arith.VectorThenSelected ∷
+    rule.Arith arith.OnlySelected ∷
+    rule.Arith arith.SelectedByVector ∷
     rule.Affine affine.AffineFor ∷
+    rule.Affine affine.AffineIf ∷
+    rule.Affine affine.AffineMapOp ∷
     rule.Affine affine.AffineLoad ∷
     rule.Affine affine.AffineStore ∷
     rule.Affine affine.GreatestOf ∷
@@ -432,9 +718,14 @@ all_rules =
     rule.Affine affine.NoMoreCarried ∷
     rule.Affine affine.NextCarried ∷
     rule.Affine affine.MapWritten ∷
+    rule.Affine affine.MapByAlias ∷
+    rule.Affine affine.SetWritten ∷
+    rule.Affine affine.SetByAlias ∷
     rule.Affine affine.DimensionOperands ∷
     rule.Affine affine.NoSymbolOperands ∷
     rule.Affine affine.WrittenSymbolOperands ∷
+    rule.Affine affine.NoElse ∷
+    rule.Affine affine.WrittenElse ∷
     rule.Subscript subscripts.NoSubscripts ∷
     rule.Subscript subscripts.FirstSubscript ∷
     rule.Subscript subscripts.NoMoreSubscripts ∷
@@ -455,173 +746,263 @@ all_rules =
     rule.Subscript subscripts.DimensionValue ∷
     rule.Subscript subscripts.SymbolValue ∷
     rule.Subscript subscripts.SubscriptInBrackets ∷
+    rule.MemRef memref.MemRefLoad ∷
+    rule.MemRef memref.MemRefStore ∷
+    rule.MemRef memref.MemRefDim ∷
+    rule.Scf scf.ScfFor ∷
+    rule.Vector vector.VectorLoad ∷
+    rule.Vector vector.VectorStore ∷
+    rule.Vector vector.VectorMaskedLoad ∷
+    rule.Vector vector.VectorMaskedStore ∷
+    rule.Vector vector.VectorBroadcast ∷
+    rule.Vector vector.VectorCreateMask ∷
+    rule.Vector vector.VectorReduction ∷
+    rule.Vector vector.VectorExtract ∷
+    rule.Vector vector.VectorInsert ∷
+    rule.Vector vector.VectorShuffle ∷
+    rule.Vector vector.VectorStep ∷
+    rule.Vector vector.VectorVscale ∷
     []
 
 -- the classes that can come first in a name, as bits
 unfoldable pub first_of : Name → ℕ
-first_of (name.File file_name.File) = 140737489928192
-first_of (name.File file_name.Aliases) = 0
-first_of (name.File file_name.Content) = 140737489928192
-first_of (name.File file_name.TopLevel) = 1572864
-first_of (name.File file_name.MoreFunctions) = 140737489403904
-first_of (name.File file_name.Function) = 1048576
+first_of (name.File file_name.File) = 534345212269666095221702656
+first_of (name.File file_name.Aliases) = 67699845898419233783545856
+first_of (name.File file_name.MapOrSet) = 844424930131968
+first_of (name.File file_name.Content) = 466645366371246861438156800
+first_of (name.File file_name.TopLevel) = 464227514732017603088744448
+first_of (name.File file_name.MoreFunctions) = 311902861460574327075241984
+first_of (name.File file_name.Function) = 309485009821345068725829632
 first_of (name.Function functions_name.Module) = 524288
-first_of (name.Function functions_name.OptionalSymbol) = 281474976710656
+first_of (name.Function functions_name.OptionalSymbol) = 4835703278458516698824704
 first_of (name.Function functions_name.NamedFunction) = 1048576
-first_of (name.Function functions_name.OptionalVisibility) = 274877906944
-first_of (name.Function functions_name.FunctionArguments) = 140737488355328
+first_of (name.Function functions_name.OptionalVisibility) = 1180591620717411303424
+first_of (name.Function functions_name.FunctionArguments) = 2417851639229258349412352
 first_of (name.Function functions_name.MoreFunctionArguments) = 512
-first_of (name.Function functions_name.FunctionArgument) = 140737488355328
-first_of (name.Function functions_name.Form) = 137471983616
-first_of (name.Region regions_name.Operations) = 140943679815680
-first_of (name.Region regions_name.Operation) = 206191460352
-first_of (name.Region regions_name.AfterTerminator) = 140943679815680
-first_of (name.Region regions_name.TypedValues) = 140737488355328
+first_of (name.Function functions_name.FunctionArgument) = 2417851639229258349412352
+first_of (name.Function functions_name.Form) = 1083198087777047544008802304
+first_of (name.Region regions_name.Operations) = 1085615957863020876067766272
+first_of (name.Region regions_name.Operation) = 1083198106223791617718353920
+first_of (name.Region regions_name.AfterTerminator) = 1085615957863020876067766272
+first_of (name.Region regions_name.TypedValues) = 2417851639229258349412352
 first_of (name.Region regions_name.Region) = 8
-first_of (name.Type types_name.Type) = 2199056809984
-first_of (name.Type types_name.MemRef) = 33554432
-first_of (name.Type types_name.Sizes) = 35184372088832
-first_of (name.Type types_name.Types) = 2199056809984
+first_of (name.Generic generic_name.GenericParts) = 2
+first_of (name.Generic generic_name.Properties) = 128
+first_of (name.Generic generic_name.Regions) = 2
+first_of (name.Generic generic_name.MoreRegions) = 512
+first_of (name.Generic generic_name.GenericRegion) = 8
+first_of (name.Generic generic_name.Label) = 77371252455336267181195264
+first_of (name.Generic generic_name.Arguments) = 2417851639229258349412352
+first_of (name.Generic generic_name.MoreArguments) = 512
+first_of (name.Type types_name.Type) = 37778931915733719842816
+first_of (name.Type types_name.MemRef) = 17592186044416
+first_of (name.Type types_name.Sizes) = 604462909807314587353088
+first_of (name.Type types_name.Vector) = 35184372088832
+first_of (name.Type types_name.Dims) = 1813388729421943762059264
+first_of (name.Type types_name.Types) = 37778931915733719842816
 first_of (name.Type types_name.MoreTypes) = 512
-first_of (name.Type types_name.ResultTypes) = 2199056809986
+first_of (name.Type types_name.ResultTypes) = 37778931915733719842818
 first_of (name.Type types_name.OptionalResultTypes) = 65536
-first_of (name.Type types_name.Layout) = 0
-first_of (name.Attribute attributes_name.Attribute) = 26388279083008
+first_of (name.Type types_name.Layout) = 512
+first_of (name.Type types_name.Strides) = 453347182355485940547584
+first_of (name.Type types_name.MoreStrides) = 512
+first_of (name.Type types_name.Stride) = 453347182355485940547584
+first_of (name.Type types_name.OptionalOffset) = 512
+first_of (name.Attribute attributes_name.Attribute) = 1156224799965889194035789864
 first_of (name.Attribute attributes_name.NumberType) = 1024
+first_of (name.Attribute attributes_name.HashWords) = 128
+first_of (name.Attribute attributes_name.Attributes) = 1156224799965889194035789864
+first_of (name.Attribute attributes_name.MoreAttributes) = 512
+first_of (name.Attribute attributes_name.ArrayNumbers) = 1024
+first_of (name.Attribute attributes_name.Dense) = 2251799813685248
+first_of (name.Attribute attributes_name.Element) = 453937478165844646182944
+first_of (name.Attribute attributes_name.Elements) = 453937478165844646182944
+first_of (name.Attribute attributes_name.MoreElements) = 512
 first_of (name.Attribute attributes_name.Dictionary) = 8
-first_of (name.Attribute attributes_name.Entries) = 8761732759552
+first_of (name.Attribute attributes_name.Entries) = 151115727451828646313984
 first_of (name.Attribute attributes_name.MoreEntries) = 512
-first_of (name.Attribute attributes_name.Entry) = 8761732759552
+first_of (name.Attribute attributes_name.Entry) = 151115727451828646313984
 first_of (name.Attribute attributes_name.EntryValue) = 2048
+first_of (name.Attribute attributes_name.FunctionTypeValue) = 2048
+first_of (name.Attribute attributes_name.AttributeOrFunctionType) = 1156224799965889194035789866
 first_of (name.Attribute attributes_name.OptionalDictionary) = 8
-first_of (name.Attribute attributes_name.OptionalAttributes) = 536870912
-first_of (name.Map maps_name.AffineMap) = 67108864
+first_of (name.Attribute attributes_name.OptionalAttributes) = 36028797018963968
+first_of (name.Map maps_name.AffineMap) = 281474976710656
+first_of (name.Map maps_name.AffineSet) = 562949953421312
 first_of (name.Map maps_name.Parameters) = 2
 first_of (name.Map maps_name.SymbolNames) = 32
-first_of (name.Map maps_name.Words) = 8796092497920
+first_of (name.Map maps_name.Words) = 151115727451828646313984
 first_of (name.Map maps_name.MoreWords) = 512
-first_of (name.Map maps_name.Expressions) = 35184371580930
+first_of (name.Map maps_name.Expressions) = 604462909807314586845186
 first_of (name.Map maps_name.MoreExpressions) = 512
-first_of (name.Map maps_name.Expression) = 35184371580930
+first_of (name.Map maps_name.SetRows) = 604462909807314586845186
+first_of (name.Map maps_name.MoreSetRows) = 512
+first_of (name.Map maps_name.SetRow) = 604462909807314586845186
+first_of (name.Map maps_name.RightSide) = 393216
+first_of (name.Map maps_name.Expression) = 604462909807314586845186
 first_of (name.Map maps_name.Sum) = 20480
-first_of (name.Map maps_name.Term) = 35184371580930
-first_of (name.Map maps_name.Product) = 1099511635968
-first_of (name.Map maps_name.Factor) = 35184371580930
-first_of (name.Map maps_name.Negated) = 35184371564546
-first_of (name.Map maps_name.Base) = 8796092497922
-first_of (name.Value values_name.Value) = 140737488355328
-first_of (name.Value values_name.ResultNumber) = 562949953421312
-first_of (name.Value values_name.Values) = 140737488355328
+first_of (name.Map maps_name.Term) = 604462909807314586845186
+first_of (name.Map maps_name.Product) = 4722366482869645221888
+first_of (name.Map maps_name.Factor) = 604462909807314586845186
+first_of (name.Map maps_name.Negated) = 604462909807314586828802
+first_of (name.Map maps_name.Base) = 151115727451828646313986
+first_of (name.Value values_name.Value) = 2417851639229258349412352
+first_of (name.Value values_name.ResultNumber) = 9671406556917033397649408
+first_of (name.Value values_name.Values) = 2417851639229258349412352
 first_of (name.Value values_name.MoreValues) = 512
-first_of (name.Value values_name.Integer) = 26388279083008
-first_of (name.Value values_name.Results) = 140737488355328
+first_of (name.Value values_name.OptionalValue) = 512
+first_of (name.Value values_name.Integer) = 453347182355485940531200
+first_of (name.Value values_name.Integers) = 453347182355485940531200
+first_of (name.Value values_name.MoreIntegers) = 512
+first_of (name.Value values_name.Results) = 2417851639229258349412352
 first_of (name.Value values_name.MoreResults) = 512
 first_of (name.Value values_name.ResultCount) = 1024
-first_of (name.Arith arith_name.Constant) = 26388279083008
-first_of (name.Arith arith_name.OptionalOverflow) = 268435456
+first_of (name.Arith arith_name.Constant) = 453937480417644459868160
+first_of (name.Arith arith_name.OptionalOverflow) = 18014398509481984
 first_of (name.Arith arith_name.MoreOverflowFlags) = 512
-first_of (name.Affine affine_name.LowerBound) = 167143014416384
-first_of (name.Affine affine_name.UpperBound) = 167134424481792
-first_of (name.Affine affine_name.Bound) = 167125834547200
-first_of (name.Affine affine_name.OptionalStep) = 2147483648
-first_of (name.Affine affine_name.OptionalIterArgs) = 4294967296
-first_of (name.Affine affine_name.Carried) = 140737488355332
+first_of (name.Arith arith_name.SelectedTypes) = 37778931915733719842816
+first_of (name.Arith arith_name.AfterVector) = 512
+first_of (name.Affine affine_name.LowerBound) = 70571053943657489904975872
+first_of (name.Affine affine_name.UpperBound) = 70571049331971471477587968
+first_of (name.Affine affine_name.Bound) = 70571044720285453050200064
+first_of (name.Affine affine_name.OptionalStep) = 144115188075855872
+first_of (name.Affine affine_name.OptionalIterArgs) = 288230376151711744
+first_of (name.Affine affine_name.Carried) = 2417851639229258349412356
 first_of (name.Affine affine_name.MoreCarried) = 516
-first_of (name.Affine affine_name.MapUse) = 67108864
+first_of (name.Affine affine_name.MapUse) = 67699845898700708760256512
+first_of (name.Affine affine_name.SetUse) = 67699845898982183736967168
 first_of (name.Affine affine_name.MapOperands) = 2
 first_of (name.Affine affine_name.SymbolOperands) = 32
-first_of (name.Subscript subscripts_name.Subscripts) = 167125901656066
+first_of (name.Affine affine_name.OptionalElse) = 576460752303423488
+first_of (name.Subscript subscripts_name.Subscripts) = 2871198830591943544684546
 first_of (name.Subscript subscripts_name.MoreSubscripts) = 512
-first_of (name.Subscript subscripts_name.Subscript) = 167125901656066
+first_of (name.Subscript subscripts_name.Subscript) = 2871198830591943544684546
 first_of (name.Subscript subscripts_name.SubscriptSum) = 20480
-first_of (name.Subscript subscripts_name.SubscriptTerm) = 167125901656066
-first_of (name.Subscript subscripts_name.SubscriptProduct) = 1099511635968
-first_of (name.Subscript subscripts_name.SubscriptFactor) = 167125901656066
-first_of (name.Subscript subscripts_name.NegatedSubscript) = 167125901639682
-first_of (name.Subscript subscripts_name.SubscriptBase) = 140737622573058
+first_of (name.Subscript subscripts_name.SubscriptTerm) = 2871198830591943544684546
+first_of (name.Subscript subscripts_name.SubscriptProduct) = 4722366482869645221888
+first_of (name.Subscript subscripts_name.SubscriptFactor) = 2871198830591943544684546
+first_of (name.Subscript subscripts_name.NegatedSubscript) = 2871198830591943544668162
+first_of (name.Subscript subscripts_name.SubscriptBase) = 2417851648236457604153346
 
 -- the classes that can come after a name, as bits
 unfoldable pub follow_of : Name → ℕ
 follow_of (name.File file_name.File) = 1
-follow_of (name.File file_name.Aliases) = 140737489928193
+follow_of (name.File file_name.Aliases) = 466645366371246861438156801
+follow_of (name.File file_name.MapOrSet) = 534345212269666095221702657
 follow_of (name.File file_name.Content) = 1
 follow_of (name.File file_name.TopLevel) = 1
 follow_of (name.File file_name.MoreFunctions) = 1
-follow_of (name.File file_name.Function) = 140737489403905
-follow_of (name.Function functions_name.Module) = 140943679815697
-follow_of (name.Function functions_name.OptionalSymbol) = 536870920
-follow_of (name.Function functions_name.NamedFunction) = 140943679815697
-follow_of (name.Function functions_name.OptionalVisibility) = 281474976710656
+follow_of (name.File file_name.Function) = 311902861460574327075241985
+follow_of (name.Function functions_name.Module) = 1085615957863020876067766289
+follow_of (name.Function functions_name.OptionalSymbol) = 36028797018963976
+follow_of (name.Function functions_name.NamedFunction) = 1085615957863020876067766289
+follow_of (name.Function functions_name.OptionalVisibility) = 4835703278458516698824704
 follow_of (name.Function functions_name.FunctionArguments) = 4
 follow_of (name.Function functions_name.MoreFunctionArguments) = 4
 follow_of (name.Function functions_name.FunctionArgument) = 516
-follow_of (name.Function functions_name.Form) = 140943679815696
+follow_of (name.Function functions_name.Form) = 1085615957863020876067766288
 follow_of (name.Region regions_name.Operations) = 16
 follow_of (name.Region regions_name.Operation) = 16
 follow_of (name.Region regions_name.AfterTerminator) = 16
-follow_of (name.Region regions_name.TypedValues) = 140943679815696
-follow_of (name.Region regions_name.Region) = 140943679815705
-follow_of (name.Type types_name.Type) = 140944216687132
-follow_of (name.Type types_name.MemRef) = 140944216687132
-follow_of (name.Type types_name.Sizes) = 2199023255552
+follow_of (name.Region regions_name.TypedValues) = 1085615957863020876067766288
+follow_of (name.Region regions_name.Region) = 1085615958439481628371189785
+follow_of (name.Generic generic_name.GenericParts) = 1085615957863020876067766289
+follow_of (name.Generic generic_name.Properties) = 1034
+follow_of (name.Generic generic_name.Regions) = 1032
+follow_of (name.Generic generic_name.MoreRegions) = 4
+follow_of (name.Generic generic_name.GenericRegion) = 516
+follow_of (name.Generic generic_name.Label) = 1085615957863020876067766288
+follow_of (name.Generic generic_name.Arguments) = 4
+follow_of (name.Generic generic_name.MoreArguments) = 4
+follow_of (name.Type types_name.Type) = 1085615961429871780945200989
+follow_of (name.Type types_name.MemRef) = 1085615961429871780945200989
+follow_of (name.Type types_name.Sizes) = 37778931862957161709568
+follow_of (name.Type types_name.Vector) = 1085615961429871780945200989
+follow_of (name.Type types_name.Dims) = 37778931862957161709568
 follow_of (name.Type types_name.Types) = 4
-follow_of (name.Type types_name.MoreTypes) = 140943679815700
-follow_of (name.Type types_name.ResultTypes) = 536870920
-follow_of (name.Type types_name.OptionalResultTypes) = 536870920
+follow_of (name.Type types_name.MoreTypes) = 1085615957863020876067766292
+follow_of (name.Type types_name.ResultTypes) = 1085615957899049673086730777
+follow_of (name.Type types_name.OptionalResultTypes) = 36028797018963976
 follow_of (name.Type types_name.Layout) = 256
-follow_of (name.Attribute attributes_name.Attribute) = 528
-follow_of (name.Attribute attributes_name.NumberType) = 528
-follow_of (name.Attribute attributes_name.Dictionary) = 140943679817244
+follow_of (name.Type types_name.Strides) = 64
+follow_of (name.Type types_name.MoreStrides) = 64
+follow_of (name.Type types_name.Stride) = 832
+follow_of (name.Type types_name.OptionalOffset) = 256
+follow_of (name.Attribute attributes_name.Attribute) = 592
+follow_of (name.Attribute attributes_name.NumberType) = 592
+follow_of (name.Attribute attributes_name.HashWords) = 592
+follow_of (name.Attribute attributes_name.Attributes) = 64
+follow_of (name.Attribute attributes_name.MoreAttributes) = 64
+follow_of (name.Attribute attributes_name.ArrayNumbers) = 256
+follow_of (name.Attribute attributes_name.Dense) = 1085615957863020876067766864
+follow_of (name.Attribute attributes_name.Element) = 832
+follow_of (name.Attribute attributes_name.Elements) = 64
+follow_of (name.Attribute attributes_name.MoreElements) = 64
+follow_of (name.Attribute attributes_name.Dictionary) = 1085615957863020876067768156
 follow_of (name.Attribute attributes_name.Entries) = 16
 follow_of (name.Attribute attributes_name.MoreEntries) = 16
 follow_of (name.Attribute attributes_name.Entry) = 528
 follow_of (name.Attribute attributes_name.EntryValue) = 528
-follow_of (name.Attribute attributes_name.OptionalDictionary) = 140943679817236
+follow_of (name.Attribute attributes_name.FunctionTypeValue) = 528
+follow_of (name.Attribute attributes_name.AttributeOrFunctionType) = 528
+follow_of (name.Attribute attributes_name.OptionalDictionary) = 1085615957863020876067767828
 follow_of (name.Attribute attributes_name.OptionalAttributes) = 8
-follow_of (name.Map maps_name.AffineMap) = 2
-follow_of (name.Map maps_name.Parameters) = 65536
-follow_of (name.Map maps_name.SymbolNames) = 65536
-follow_of (name.Map maps_name.Words) = 68
-follow_of (name.Map maps_name.MoreWords) = 68
+follow_of (name.Map maps_name.AffineMap) = 534345212269666095221703251
+follow_of (name.Map maps_name.AffineSet) = 534345212269666095221703251
+follow_of (name.Map maps_name.Parameters) = 66560
+follow_of (name.Map maps_name.SymbolNames) = 66560
+follow_of (name.Map maps_name.Words) = 324
+follow_of (name.Map maps_name.MoreWords) = 324
 follow_of (name.Map maps_name.Expressions) = 4
 follow_of (name.Map maps_name.MoreExpressions) = 4
-follow_of (name.Map maps_name.Expression) = 516
-follow_of (name.Map maps_name.Sum) = 516
-follow_of (name.Map maps_name.Term) = 20996
-follow_of (name.Map maps_name.Product) = 20996
-follow_of (name.Map maps_name.Factor) = 1099511656964
-follow_of (name.Map maps_name.Negated) = 1099511656964
-follow_of (name.Map maps_name.Base) = 1099511656964
-follow_of (name.Value values_name.Value) = 1107296286316
-follow_of (name.Value values_name.ResultNumber) = 1107296286316
+follow_of (name.Map maps_name.SetRows) = 4
+follow_of (name.Map maps_name.MoreSetRows) = 4
+follow_of (name.Map maps_name.SetRow) = 516
+follow_of (name.Map maps_name.RightSide) = 516
+follow_of (name.Map maps_name.Expression) = 393732
+follow_of (name.Map maps_name.Sum) = 393732
+follow_of (name.Map maps_name.Term) = 414212
+follow_of (name.Map maps_name.Product) = 414212
+follow_of (name.Map maps_name.Factor) = 4722366482869645636100
+follow_of (name.Map maps_name.Negated) = 4722366482869645636100
+follow_of (name.Map maps_name.Base) = 4722366482869645636100
+follow_of (name.Value values_name.Value) = 4722888900426420221548
+follow_of (name.Value values_name.ResultNumber) = 4722888900426420221548
 follow_of (name.Value values_name.Values) = 68
 follow_of (name.Value values_name.MoreValues) = 1092
-follow_of (name.Value values_name.Integer) = 7516194328
-follow_of (name.Value values_name.Results) = 206191460352
+follow_of (name.Value values_name.OptionalValue) = 1024
+follow_of (name.Value values_name.Integer) = 504403158265497432
+follow_of (name.Value values_name.Integers) = 64
+follow_of (name.Value values_name.MoreIntegers) = 320
+follow_of (name.Value values_name.Results) = 1083198106223791617718353920
 follow_of (name.Value values_name.MoreResults) = 2048
 follow_of (name.Value values_name.ResultCount) = 2560
-follow_of (name.Arith arith_name.Constant) = 140943679815696
+follow_of (name.Arith arith_name.Constant) = 1085615957863020876067766288
 follow_of (name.Arith arith_name.OptionalOverflow) = 1024
 follow_of (name.Arith arith_name.MoreOverflowFlags) = 256
-follow_of (name.Affine affine_name.LowerBound) = 1073741824
-follow_of (name.Affine affine_name.UpperBound) = 6442450952
-follow_of (name.Affine affine_name.Bound) = 7516192776
-follow_of (name.Affine affine_name.OptionalStep) = 4294967304
+follow_of (name.Arith arith_name.SelectedTypes) = 1085615957863020876067766288
+follow_of (name.Arith arith_name.AfterVector) = 1085615957863020876067766288
+follow_of (name.Affine affine_name.LowerBound) = 72057594037927936
+follow_of (name.Affine affine_name.UpperBound) = 432345564227567624
+follow_of (name.Affine affine_name.Bound) = 504403158265495560
+follow_of (name.Affine affine_name.OptionalStep) = 288230376151711752
 follow_of (name.Affine affine_name.OptionalIterArgs) = 8
 follow_of (name.Affine affine_name.Carried) = 4
-follow_of (name.Affine affine_name.MoreCarried) = 2199056809984
-follow_of (name.Affine affine_name.MapUse) = 7516192776
-follow_of (name.Affine affine_name.MapOperands) = 7516192776
-follow_of (name.Affine affine_name.SymbolOperands) = 7516192776
+follow_of (name.Affine affine_name.MoreCarried) = 37778931915733719842816
+follow_of (name.Affine affine_name.MapUse) = 1085615958367424034333261848
+follow_of (name.Affine affine_name.SetUse) = 65544
+follow_of (name.Affine affine_name.MapOperands) = 1085615958367424034333327384
+follow_of (name.Affine affine_name.SymbolOperands) = 1085615958367424034333327384
+follow_of (name.Affine affine_name.OptionalElse) = 1085615957863020876067766288
 follow_of (name.Subscript subscripts_name.Subscripts) = 64
 follow_of (name.Subscript subscripts_name.MoreSubscripts) = 64
 follow_of (name.Subscript subscripts_name.Subscript) = 576
 follow_of (name.Subscript subscripts_name.SubscriptSum) = 580
 follow_of (name.Subscript subscripts_name.SubscriptTerm) = 21060
 follow_of (name.Subscript subscripts_name.SubscriptProduct) = 21060
-follow_of (name.Subscript subscripts_name.SubscriptFactor) = 1099511657028
-follow_of (name.Subscript subscripts_name.NegatedSubscript) = 1099511657028
-follow_of (name.Subscript subscripts_name.SubscriptBase) = 1099511657028
+follow_of (name.Subscript subscripts_name.SubscriptFactor) = 4722366482869645242948
+follow_of (name.Subscript subscripts_name.NegatedSubscript) = 4722366482869645242948
+follow_of (name.Subscript subscripts_name.SubscriptBase) = 4722366482869645242948
 
 -- whether a class is among those of a number's bits
 unfoldable pub has : ℕ → Class → Bool

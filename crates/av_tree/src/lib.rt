@@ -4,11 +4,14 @@
 
 mod attribute;
 mod class;
+mod named_forms;
 mod node;
 pub mod table;
+pub mod types;
 mod written;
 
 pub use attribute::{Alias, Attr, Element, Named};
-pub use class::{Bracket, Class, Keyword, bracket_of};
+pub use class::{Bracket, Class, Keyword, bracket_of, class_number};
+pub use named_forms::template;
 pub use node::{Body, BodyArg, Node, Tree};
 pub use written::{DimText, ExprText, LayoutText, MapText, RowText, SetText, SizeText, TypeText};

@@ -15,11 +15,15 @@ mod arith;
 mod attributes;
 mod file;
 mod functions;
+mod generic;
 mod maps;
+mod memref;
 mod regions;
+mod scf;
 mod subscripts;
 mod types;
 mod values;
+mod vector;
 
 use super::class::{Class, Keyword, is_word_class};
 pub use affine::{AffineName, AffineRule};
@@ -28,21 +32,39 @@ pub use attributes::{AttributeName, AttributeRule};
 use av_lex::Sign;
 pub use file::{FileName, FileRule};
 pub use functions::{FunctionName, FunctionRule};
+pub use generic::{GenericName, GenericRule};
 pub use maps::{MapName, MapRule};
+pub use memref::MemRefRule;
 pub use regions::{RegionName, RegionRule};
+pub use scf::ScfRule;
 pub use subscripts::{SubscriptName, SubscriptRule};
 pub use types::{TypeName, TypeRule};
 pub use values::{ValueName, ValueRule};
+pub use vector::VectorRule;
 
 /// A token of one of several classes, whose spelling matters to what its row makes.
 #[derive(Clone, Copy)]
 pub enum Test {
     Number,
+    Zero,
     DimX,
+    ScalX,
     Scalar,
     ValId,
     SymId,
+    CaretId,
     HashDigits,
+    HashWord,
+    /// Any name with a `#`.
+    HashId,
+    /// A name with a `#` that no `<` can follow.
+    AliasOnly,
+    /// Any text in quotes.
+    String,
+    /// `"builtin.module"`.
+    ModuleString,
+    /// `"func.func"`.
+    FuncString,
     /// Any word.
     Word,
     /// Any word but those of divisions: the name of a parameter.
@@ -51,6 +73,12 @@ pub enum Test {
     EntryName,
     Terminator,
     Overflowing,
+    Binary,
+    Cast,
+    Predicate,
+    MapOp,
+    Kind,
+    Bool,
     Visibility,
     OverflowFlag,
     Division,
@@ -71,6 +99,7 @@ pub enum Name {
     File(FileName),
     Function(FunctionName),
     Region(RegionName),
+    Generic(GenericName),
     Type(TypeName),
     Attribute(AttributeName),
     Map(MapName),
@@ -86,6 +115,7 @@ pub enum Rule {
     File(FileRule),
     Function(FunctionRule),
     Region(RegionRule),
+    Generic(GenericRule),
     Type(TypeRule),
     Attribute(AttributeRule),
     Map(MapRule),
@@ -93,6 +123,9 @@ pub enum Rule {
     Arith(ArithRule),
     Affine(AffineRule),
     Subscript(SubscriptRule),
+    MemRef(MemRefRule),
+    Scf(ScfRule),
+    Vector(VectorRule),
 }
 
 /// The symbols of a row, in order.
@@ -111,6 +144,7 @@ fn symbols_in_group(rule: Rule) -> &'static [Symbol]
         Rule::File(rule) => file::symbols(rule),
         Rule::Function(rule) => functions::symbols(rule),
         Rule::Region(rule) => regions::symbols(rule),
+        Rule::Generic(rule) => generic::symbols(rule),
         Rule::Type(rule) => types::symbols(rule),
         Rule::Attribute(rule) => attributes::symbols(rule),
         Rule::Map(rule) => maps::symbols(rule),
@@ -118,6 +152,9 @@ fn symbols_in_group(rule: Rule) -> &'static [Symbol]
         Rule::Arith(rule) => arith::symbols(rule),
         Rule::Affine(rule) => affine::symbols(rule),
         Rule::Subscript(rule) => subscripts::symbols(rule),
+        Rule::MemRef(rule) => memref::symbols(rule),
+        Rule::Scf(rule) => scf::symbols(rule),
+        Rule::Vector(rule) => vector::symbols(rule),
     }
 }
 
@@ -130,6 +167,7 @@ pub fn choose(name: Name, class: Class) -> Rule
         Name::File(name) => file::choose(name, class),
         Name::Function(name) => functions::choose(name, class),
         Name::Region(name) => regions::choose(name, class),
+        Name::Generic(name) => generic::choose(name, class),
         Name::Type(name) => types::choose(name, class),
         Name::Attribute(name) => attributes::choose(name, class),
         Name::Map(name) => maps::choose(name, class),
@@ -146,17 +184,38 @@ pub fn fits(test: Test, class: Class) -> bool
 {
     match test {
         Test::Number => matches!(class, Class::Zero | Class::Positive),
+        Test::Zero => matches!(class, Class::Zero),
         Test::DimX => matches!(class, Class::DimX),
+        Test::ScalX => matches!(class, Class::ScalX),
         Test::Scalar => matches!(class, Class::Scalar),
         Test::ValId => matches!(class, Class::ValId),
         Test::SymId => matches!(class, Class::SymId),
+        Test::CaretId => matches!(class, Class::CaretId),
         Test::HashDigits => matches!(class, Class::HashDigits),
+        Test::HashWord => matches!(class, Class::HashWord),
+        Test::HashId => matches!(
+            class,
+            Class::HashDigits | Class::HashWord | Class::HashOther
+        ),
+        Test::AliasOnly => matches!(class, Class::HashDigits | Class::HashOther),
+        Test::String => matches!(
+            class,
+            Class::QuotedModule | Class::QuotedFunc | Class::Quoted
+        ),
+        Test::ModuleString => matches!(class, Class::QuotedModule),
+        Test::FuncString => matches!(class, Class::QuotedFunc),
         Test::Word => is_word_class(class),
         Test::Parameter => !matches!(class, Class::Word(Keyword::Division)) && is_word_class(class),
         Test::EntryName => !matches!(class, Class::Word(Keyword::FunctionType))
             && is_word_class(class),
         Test::Terminator => matches!(class, Class::Word(Keyword::Terminator)),
         Test::Overflowing => matches!(class, Class::Word(Keyword::Overflowing)),
+        Test::Binary => matches!(class, Class::Word(Keyword::Binary)),
+        Test::Cast => matches!(class, Class::Word(Keyword::Cast)),
+        Test::Predicate => matches!(class, Class::Word(Keyword::Predicate)),
+        Test::MapOp => matches!(class, Class::Word(Keyword::MapOp)),
+        Test::Kind => matches!(class, Class::Word(Keyword::Kind)),
+        Test::Bool => matches!(class, Class::Word(Keyword::Bool)),
         Test::Visibility => matches!(class, Class::Word(Keyword::Visibility)),
         Test::OverflowFlag => matches!(class, Class::Word(Keyword::OverflowFlag)),
         Test::Division => matches!(class, Class::Word(Keyword::Division)),
@@ -170,18 +229,29 @@ pub fn need(rule: Rule) -> u32
     match rule {
         Rule::File(rule) => file::need(rule),
         Rule::Function(rule) => functions::need(rule),
-        Rule::Region(RegionRule::NamedRegion) => 1,
-        Rule::Type(TypeRule::BufferType | TypeRule::MemRefType | TypeRule::ResultTypeList) => 1,
-        Rule::Attribute(
-            AttributeRule::WrittenDictionary
-            | AttributeRule::DictionaryHere
-            | AttributeRule::AttributesPart,
-        ) => 1,
-        Rule::Map(MapRule::WrittenMap) => 2,
-        Rule::Map(MapRule::DimensionNames | MapRule::WrittenSymbolNames | MapRule::InBrackets) => 1,
-        Rule::Arith(ArithRule::WrittenOverflow) => 1,
+        Rule::Region(rule) => regions::need(rule),
+        Rule::Generic(rule) => generic::need(rule),
+        Rule::Type(rule) => types::need(rule),
+        Rule::Attribute(rule) => attributes::need(rule),
+        Rule::Map(rule) => maps::need(rule),
+        Rule::Arith(rule) => arith::need(rule),
         Rule::Affine(rule) => affine::need(rule),
-        Rule::Subscript(SubscriptRule::SymbolValue | SubscriptRule::SubscriptInBrackets) => 1,
+        Rule::Subscript(rule) => subscripts::need(rule),
+        Rule::MemRef(MemRefRule::MemRefLoad | MemRefRule::MemRefStore | MemRefRule::MemRefDim) => 1,
+        Rule::Scf(ScfRule::ScfFor) => 1,
+        Rule::Vector(
+            VectorRule::VectorLoad
+            | VectorRule::VectorStore
+            | VectorRule::VectorMaskedLoad
+            | VectorRule::VectorMaskedStore
+            | VectorRule::VectorBroadcast
+            | VectorRule::VectorCreateMask
+            | VectorRule::VectorReduction
+            | VectorRule::VectorExtract
+            | VectorRule::VectorInsert
+            | VectorRule::VectorShuffle
+            | VectorRule::VectorStep,
+        ) => 1,
         _ => 0,
     }
 }

@@ -1,5 +1,5 @@
 -- Properties and attributes: one list of entries, in which the first of a name counts.
-use Rattle.std.specs.Prelude.{ℕ, ◌+◌, ◌^◌, ◌==◌, ℤ, pos, int_le, int_lt, unsigned_abs, Bool, true, false, ◌&&◌, ◌||◌, if◌then◌else◌, List, Option, Some, None, is_some, find, count_by, codes}
+use Rattle.std.specs.Prelude.{ℕ, ◌+◌, ◌^◌, ◌==◌, ℤ, pos, int_le, int_lt, unsigned_abs, Bool, true, false, not, ◌&&◌, ◌||◌, if◌then◌else◌, List, Option, Some, None, is_some, find, count_by, codes}
 use Rattle.std.specs.List.{list_all, list_any}
 use Rattle.std.specs.Option.{option_map, option_or, option_and_then}
 use Rattle.std.specs.Str.{bytes_eq}
@@ -45,16 +45,34 @@ abbrev pub mark_number_of : Attr → Option ℕ
 mark_number_of (Number value (Scalar name)) = if bytes_eq name (codes "i64") then small_number value else None
 mark_number_of _ = None
 
+-- ---- the entries that count
+-- an entry that is read and dropped on every operation, however often it stands; nothing asks its value
+abbrev pub is_dropped : Named → Bool
+is_dropped e = is_entry (codes "overflowFlags") e
+
+-- the mark that the operation may have, with a number
+abbrev pub is_mark : Row → Named → Bool
+is_mark row e = is_entry (mark_name row) e && is_some (mark_number_of (out-Named e).value)
+
+-- an entry counts unless it is such a mark or is dropped
+abbrev pub counts : Row → Named → Bool
+counts row e = not (is_mark row e) && not (is_dropped e)
+
+-- how many entries of an operation count, properties and attributes together
+abbrev pub counted : Row → Node → ℕ
+counted row node = count_by (counts row) (out-Node node).properties + count_by (counts row) (out-Node node).attrs
+
+-- ---- what is asked of entries
 -- the operation has one entry of this name
 abbrev pub is_once : List ℕ → Node → Bool
 is_once name node = count_by (is_entry name) (out-Node node).properties + count_by (is_entry name) (out-Node node).attrs == 1
 
--- an entry is a property of the operation, or has a dot in its name: a mark, or an attribute that is dropped
+-- an entry is a property of the operation, or is dropped, or has a dot in its name: a mark, or another attribute that is dropped
 abbrev pub is_property : Row → List ℕ → Bool
 is_property row name = list_any (λ property. bytes_eq property name) (property_names row)
 
 abbrev pub is_known : Row → Named → Bool
-is_known row e = is_property row (out-Named e).name || list_any (λ byte. byte == 46) (out-Named e).name
+is_known row e = is_property row (out-Named e).name || is_dropped e || list_any (λ byte. byte == 46) (out-Named e).name
 
 -- the operation's mark, if it stands, stands once and is a number
 abbrev pub is_good_mark : Bool → Option Attr → Bool

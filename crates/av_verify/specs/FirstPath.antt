@@ -1,4 +1,5 @@
--- Which trees have the forms of the first path.
+-- Which trees have the forms of the first path. A property may stand among the attributes instead, and types are not looked at
+-- where they are written: the elaboration compares them with those of the values.
 use Rattle.std.specs.Prelude.{ℕ, ◌-◌, ◌==◌, pos, Bool, true, false, ◌&&◌, ◌||◌, List, [], ◌∷◌, length, take, drop, slice_get, Option, Some, None, is_some, codes}
 use Rattle.std.specs.List.{list_all}
 use Rattle.std.specs.Option.{option_eq, option_map_or}
@@ -6,7 +7,6 @@ use Rattle.std.specs.Ordering.{int_eq}
 use Rattle.std.specs.Str.{bytes_eq}
 use Rattle.av_tree.specs.declared.attribute.Attr.{Attr}
 use Rattle.av_tree.specs.declared.attribute.Attr.TheVariants.{Number, «Type»}
-use Rattle.av_tree.specs.declared.attribute.Named.{Named, out-Named}
 use Rattle.av_tree.specs.declared.node.Node.{Node, out-Node}
 use Rattle.av_tree.specs.declared.node.Body.{Body, out-Body}
 use Rattle.av_tree.specs.declared.node.Tree.{Tree}
@@ -17,9 +17,8 @@ use Rattle.av_tree.specs.declared.written.ExprText.{ExprText, ExprText-F, out-Ex
 use Rattle.av_tree.specs.declared.written.ExprText.TheOpen as expr
 use Rattle.av_tree.specs.declared.written.MapText.{MapText}
 use Rattle.av_verify.specs.declared.rows.Row.{Row}
-use Rattle.av_verify.specs.declared.rows.Row.TheVariants.{Loop, Load, Store}
-use Rattle.av_verify.specs.Entries.{entry_of, number_of, map_of, mark_number_of}
-use Rattle.av_verify.specs.Rows.{mark_name}
+use Rattle.av_verify.specs.declared.rows.Row.TheVariants.{Function, Constant, Loop, Load, Store}
+use Rattle.av_verify.specs.Entries.{entry_of, number_of, map_of, is_dropped, counted}
 
 -- ---- lists
 -- there is exactly one, and it passes a test
@@ -43,26 +42,17 @@ is_block inner last xs = is_last last xs && list_all inner (front xs)
 abbrev pub is_named : List ℕ → Node → Bool
 is_named name node = bytes_eq (out-Node node).name name
 
-abbrev pub has_attributes : ℕ → Node → Bool
-has_attributes n node = length (out-Node node).attrs == n
+-- so many of its entries count
+abbrev pub has_entries : ℕ → Row → Node → Bool
+has_entries n row node = counted row node == n
 
-abbrev pub has_properties : ℕ → Node → Bool
-has_properties n node = length (out-Node node).properties == n
-
--- of this name, and neither with properties nor with attributes
+-- of this name, and with neither properties nor attributes but those that are dropped
 abbrev pub is_bare : List ℕ → Node → Bool
-is_bare name node = is_named name node && has_properties 0 node && has_attributes 0 node
+is_bare name node = is_named name node && list_all is_dropped (out-Node node).properties && list_all is_dropped (out-Node node).attrs
 
 -- an end of a region that gives nothing
 abbrev pub is_end : List ℕ → Node → Bool
 is_end name node = is_bare name node && (length (out-Node node).operands == 0)
-
--- all attributes are the mark that the operation may have, with a number
-abbrev pub is_mark : Row → Named → Bool
-is_mark row e = bytes_eq (out-Named e).name (mark_name row) && is_some (mark_number_of (out-Named e).value)
-
-abbrev pub has_only_marks : Row → Node → Bool
-has_only_marks row node = list_all (is_mark row) (out-Node node).attrs
 
 -- ---- constants
 -- a number of type i32
@@ -72,8 +62,7 @@ is_plain_number _ = false
 
 abbrev pub is_plain_constant : Node → Bool
 is_plain_constant node =
-    is_named (codes "arith.constant") node && has_attributes 0 node && has_properties 1 node
-    && is_plain_number (entry_of (codes "value") node)
+    is_named (codes "arith.constant") node && has_entries 1 Constant node && is_plain_number (entry_of (codes "value") node)
 
 -- ---- subscripts
 abbrev pub has_no_parameter : MapText → Bool
@@ -108,7 +97,7 @@ has_plain_subscript values variable None = false
 -- a load or a store, so many of whose operands stand before the values of its subscript
 abbrev pub is_plain_access : Row → ℕ → List ℕ → Node → Bool
 is_plain_access row first variable node =
-    has_only_marks row node && has_properties 1 node
+    has_entries 1 row node
     && has_plain_subscript (drop first (out-Node node).operands) variable (map_of (entry_of (codes "map") node))
 
 -- what stands in a loop with this variable
@@ -136,7 +125,7 @@ is_constant_bound None = false
 -- a loop between two numbers with step 1, which has no operands and carries nothing
 unfoldable pub is_plain_loop : Node → Bool
 is_plain_loop node =
-    is_named (codes "affine.for") node && has_only_marks Loop node && has_properties 4 node
+    is_named (codes "affine.for") node && has_entries 4 Loop node
     && (length (out-Node node).operands == 0)
     && is_constant_bound (map_of (entry_of (codes "lowerBoundMap") node))
     && is_constant_bound (map_of (entry_of (codes "upperBoundMap") node))
@@ -170,7 +159,7 @@ is_function_body body =
 -- a function with a name and a type, without results and attributes
 unfoldable pub is_plain_function : Node → Bool
 is_plain_function node =
-    is_named (codes "func.func") node && has_attributes 0 node && has_properties 2 node
+    is_named (codes "func.func") node && has_entries 2 Function node
     && is_some (entry_of (codes "sym_name") node)
     && gives_nothing (entry_of (codes "function_type") node)
     && is_only is_function_body (out-Node node).regions

@@ -11,11 +11,12 @@ use Rattle.av_ir.specs.declared.module.OpKind.TheVariants.{AffineFor}
 use Rattle.av_ir.specs.declared.module.Op.{Op}
 use Rattle.av_ir.specs.declared.module.Region.{Region}
 use Rattle.av_tree.specs.declared.attribute.Attr.{Attr}
-use Rattle.av_tree.specs.declared.attribute.Attr.TheVariants.{Array}
+use Rattle.av_tree.specs.declared.attribute.Attr.TheVariants.{Number, Array}
 use Rattle.av_tree.specs.declared.node.Node.{Node, out-Node}
 use Rattle.av_tree.specs.declared.node.Body.{Body, out-Body}
 use Rattle.av_tree.specs.declared.node.BodyArg.{BodyArg}
 use Rattle.av_tree.specs.declared.written.MapText.{MapText}
+use Rattle.av_tree.specs.declared.written.TypeText.{Scalar}
 use Rattle.av_verify.specs.declared.maps.MapUse.{MapUse}
 use Rattle.av_verify.specs.declared.refusal.Code.TheVariants as code
 use Rattle.av_verify.specs.declared.refusal.Rule.{Rule}
@@ -76,9 +77,9 @@ abbrev pub arity_of : Option MapText → ℕ
 arity_of (Some m) = length m.dims + length m.syms
 arity_of None = 0
 
--- the numbers of the operands of both bounds and of the carried values
+-- the numbers of the operands of both bounds and of the carried values, in an array of type i32
 abbrev pub segments_of : Option Attr → Option (List ℤ)
-segments_of (Some (Array elem numbers)) = Some numbers
+segments_of (Some (Array (Scalar name) numbers)) = if bytes_eq name (codes "i32") then Some numbers else None
 segments_of _ = None
 
 abbrev pub segments : Node → Option (List ℤ)
@@ -106,6 +107,11 @@ lower_values node operands = take (arity_of (lower_map node)) operands
 abbrev pub upper_values : Node → List ValueId → List ValueId
 upper_values node operands = drop (arity_of (lower_map node)) operands
 
+-- a number of type index
+abbrev pub is_index_number : Option Attr → Bool
+is_index_number (Some (Number value (Scalar name))) = bytes_eq name (codes "index")
+is_index_number _ = false
+
 -- from 1 to 2 ^ 31 - 1
 abbrev pub is_step : Option ℤ → Bool
 is_step (Some step) = int_le (pos 1) step && int_le step (pos 0x7FFF_FFFF)
@@ -121,7 +127,7 @@ loop_agrees scope node operands =
 abbrev pub has_loop_entries : Node → Bool
 has_loop_entries node =
     has_good_entries Loop node && is_some (lower_map node) && is_some (upper_map node)
-    && is_some (number_of (entry_of (codes "step") node)) && is_some (segments node)
+    && is_index_number (entry_of (codes "step") node) && is_some (segments node)
 
 abbrev pub bounds_dimensions : Scope → Node → List ValueId → Bool
 bounds_dimensions scope node operands =

@@ -1,11 +1,11 @@
 //! Properties and attributes, which are one list of entries.
 
-ghost use Rattle.std.specs.Prelude.{◌≡◌, ◌==◌, ◌≤◌, length, count_by, is_some};
+ghost use Rattle.std.specs.Prelude.{◌≡◌, ◌==◌, ◌≤◌, length, count_by, is_some, codes};
 ghost use Rattle.std.specs.List.{list_all, list_any};
 ghost use Rattle.std.specs.Str.{bytes_eq};
 ghost use Rattle.av_verify.specs.Rows.{mark_name, property_names};
 ghost use Rattle.std.specs.Option.{option_copied};
-ghost use Rattle.av_verify.specs.Entries.{entry_of, first_of, has_good_entries, has_needed, is_entry, is_good_mark, is_known, is_once, is_property, map_of, mark_number_of, marks_of, number_of};
+ghost use Rattle.av_verify.specs.Entries.{counted, counts, entry_of, first_of, has_good_entries, has_needed, is_dropped, is_entry, is_good_mark, is_known, is_mark, is_once, is_property, map_of, mark_number_of, marks_of, number_of};
 
 use super::rows::{Row, mark_of, properties_of};
 use av_affine::No;
@@ -71,6 +71,41 @@ pub(crate) fn mark_number(value: &Attr) -> Option<No>
     }
 }
 
+/// Whether an entry is read and dropped on every operation: nothing asks its value, or how often it stands.
+pub(crate) fn is_dropped(entry: &Named) -> bool
+    ensures { result ≡ is_dropped entry.now }
+{
+    entry.name.as_slice() == b"overflowFlags".as_slice()
+}
+
+// Whether an entry is the mark that the operation may have, with a number.
+fn is_mark(row: Row, entry: &Named) -> bool
+    ensures { result ≡ is_mark row entry.now }
+{
+    entry.name.as_slice() == mark_of(row) && mark_number(&entry.value).is_some()
+}
+
+// Whether an entry counts: it is no such mark, and isn't dropped.
+fn counts(row: Row, entry: &Named) -> bool
+    ensures { result ≡ counts row entry.now }
+{
+    !is_mark(row, entry) && !is_dropped(entry)
+}
+
+/// How many entries of an operation count, properties and attributes together.
+pub(crate) fn counted(row: Row, node: &Node) -> usize
+    ensures { result ≡ counted row node.now }
+{
+    counted_among(row, node.properties.as_slice()) + counted_among(row, node.attrs.as_slice())
+}
+
+fn counted_among(row: Row, entries: &[Named]) -> usize
+    ensures value { result ≡ count_by (counts row) entries.now }
+    ensures most { result ≤ length entries.now }
+{
+    entries.iter().filter(|entry| counts(row, entry)).count()
+}
+
 /// Whether all properties that an operation needs are there.
 pub(crate) fn has_needed(row: Row, node: &Node) -> bool
     ensures { result ≡ has_needed row node.now }
@@ -130,11 +165,11 @@ fn are_known(row: Row, entries: &[Named]) -> bool
     entries.iter().all(|entry| is_known(row, entry))
 }
 
-// Whether an entry is a property, a mark, or an attribute that is dropped: these two have a dot.
+// Whether an entry is a property or is dropped, or its name has a dot, as marks and other attributes that are dropped have.
 fn is_known(row: Row, entry: &Named) -> bool
     ensures { result ≡ is_known row entry.now }
 {
-    is_property(row, entry.name.as_slice()) || has_dot(entry.name.as_slice())
+    is_property(row, entry.name.as_slice()) || is_dropped(entry) || has_dot(entry.name.as_slice())
 }
 
 fn has_dot(name: &[u8]) -> bool

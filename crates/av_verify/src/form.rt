@@ -4,10 +4,11 @@ ghost use Rattle.std.specs.Prelude.{◌≡◌, codes};
 ghost use Rattle.std.specs.List.{list_all};
 ghost use Rattle.std.specs.Option.{option_copied};
 ghost use Rattle.av_tree.specs.declared.written.ExprText.{out-ExprText};
-ghost use Rattle.av_verify.specs.FirstPath.{front, gives_nothing, has_no_parameter, has_only_marks, has_plain_subscript, is_alone, is_bare, is_block, is_constant_bound, is_end, is_first_path_of, is_function_body, is_in_function, is_in_loop, is_last, is_loop_body, is_mark, is_module_body, is_named, is_plain_access, is_plain_buffer, is_plain_constant, is_plain_function, is_plain_loop, is_plain_module, is_plain_number, is_subscript, is_variable};
+ghost use Rattle.av_verify.specs.Entries.{is_dropped};
+ghost use Rattle.av_verify.specs.FirstPath.{front, gives_nothing, has_entries, has_no_parameter, has_plain_subscript, is_alone, is_bare, is_block, is_constant_bound, is_end, is_first_path_of, is_function_body, is_in_function, is_in_loop, is_last, is_loop_body, is_module_body, is_named, is_plain_access, is_plain_buffer, is_plain_constant, is_plain_function, is_plain_loop, is_plain_module, is_plain_number, is_subscript, is_variable};
 
-use super::entries::{entry, map_in, mark_number, number_in};
-use super::rows::{Row, mark_of};
+use super::entries::{counted, entry, is_dropped, map_in, number_in};
+use super::rows::Row;
 use av_affine::Text;
 use av_tree::{Attr, Body, BodyArg, ExprText, MapText, Named, Node, SizeText, Tree, TypeText};
 
@@ -17,7 +18,8 @@ use av_tree::{Attr, Body, BodyArg, ExprText, MapText, Named, Node, SizeText, Tre
 /// attributes and visibility. Its arguments are `memref<Nxi32>`. In its body stand constants of type
 /// `i32` and loops between constant bounds with step 1, which carry no value and have no loop inside. In a
 /// loop stand such constants, `arith.addi`, and loads and stores with one subscript: the loop's variable
-/// `%i`, `%i + N`, `%i - N` or `N`. No other attribute stands than the marks in their places.
+/// `%i`, `%i + N`, `%i - N` or `N`. Operations have their properties, among the attributes or not, the marks in their
+/// places, and what is dropped on every operation; no other attribute stands. Types are not compared here.
 pub fn is_first_path(tree: &Tree) -> bool
     ensures { result ≡ is_first_path_of tree.now }
 {
@@ -50,13 +52,19 @@ fn is_named(node: &Node, name: &[u8]) -> bool
     node.name.as_slice() == name
 }
 
-// Whether an operation has this name and neither properties nor attributes.
+// Whether an operation has this name, and neither properties nor attributes but those that are dropped.
 fn is_bare(node: &Node, name: &[u8]) -> bool
     ensures { result ≡ is_bare name.now node.now }
 {
     is_named(node, name)
-        && node.properties.as_slice().is_empty()
-        && node.attrs.as_slice().is_empty()
+        && are_dropped(node.properties.as_slice())
+        && are_dropped(node.attrs.as_slice())
+}
+
+fn are_dropped(entries: &[Named]) -> bool
+    ensures { result ≡ list_all is_dropped entries.now }
+{
+    entries.iter().all(|entry| is_dropped(entry))
 }
 
 #[tactic(auto, unfolding(crate::specs::FirstPath::is_plain_function))]
@@ -64,8 +72,7 @@ fn is_plain_function(node: &Node) -> bool
     ensures { result ≡ is_plain_function node.now }
 {
     is_named(node, b"func.func")
-        && node.attrs.as_slice().is_empty()
-        && node.properties.len() == 2
+        && counted(Row::Function, node) == 2
         && entry(node, b"sym_name").is_some()
         && gives_nothing(entry(node, b"function_type"))
         && match node.regions.as_slice() {
@@ -159,8 +166,7 @@ fn is_plain_constant(node: &Node) -> bool
     ensures { result ≡ is_plain_constant node.now }
 {
     is_named(node, b"arith.constant")
-        && node.attrs.as_slice().is_empty()
-        && node.properties.len() == 1
+        && counted(Row::Constant, node) == 1
         && is_plain_number(entry(node, b"value"))
 }
 
@@ -184,8 +190,7 @@ fn is_plain_loop(node: &Node) -> bool
     ensures { result ≡ is_plain_loop node.now }
 {
     is_named(node, b"affine.for")
-        && has_only_marks(node, Row::Loop)
-        && node.properties.len() == 4
+        && counted(Row::Loop, node) == 4
         && node.operands.as_slice().is_empty()
         && is_constant_bound(map_in(node, b"lowerBoundMap"))
         && is_constant_bound(map_in(node, b"upperBoundMap"))
@@ -205,22 +210,6 @@ fn is_constant_bound(bound: Option<&MapText>) -> bool
             && matches!(map.results.as_slice(), [ExprText::Const(_)]),
         None => false,
     }
-}
-
-// Whether all attributes are marks of the operation with a number.
-fn has_only_marks(node: &Node, row: Row) -> bool
-    ensures { result ≡ has_only_marks row node.now }
-{
-    node.attrs
-        .as_slice()
-        .iter()
-        .all(|entry| is_mark(entry, row))
-}
-
-fn is_mark(entry: &Named, row: Row) -> bool
-    ensures { result ≡ is_mark row entry.now }
-{
-    entry.name.as_slice() == mark_of(row) && mark_number(&entry.value).is_some()
 }
 
 fn is_loop_body(body: &Body) -> bool
@@ -259,9 +248,7 @@ fn is_plain_access(node: &Node, row: Row, first: usize, variable: &[u8]) -> bool
     ensures { result ≡ is_plain_access row first variable.now node.now }
 {
     let values = node.operands.as_slice().get(first..).unwrap_or(&[]);
-    has_only_marks(node, row)
-        && node.properties.len() == 1
-        && has_plain_subscript(map_in(node, b"map"), values, variable)
+    counted(row, node) == 1 && has_plain_subscript(map_in(node, b"map"), values, variable)
 }
 
 fn has_plain_subscript(map: Option<&MapText>, values: &[Text], variable: &[u8]) -> bool

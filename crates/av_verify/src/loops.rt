@@ -8,7 +8,7 @@ ghost use Rattle.av_tree.specs.declared.node.Node.{out-Node};
 ghost use Rattle.av_tree.specs.declared.node.Body.{out-Body};
 ghost use Rattle.av_verify.specs.Codes.{Asked, first_failing};
 ghost use Rattle.av_verify.specs.FirstPath.{is_last};
-ghost use Rattle.av_verify.specs.Loops.{are_fresh, are_new, are_segments, arity_of, bounds_dimensions, end_with, gives_something, has_loop_entries, has_one_variable, is_index, is_parted, is_step, loop_agrees, loop_between, loop_op, loop_rules, lower_values, segments, step_of, upper_values, with_names};
+ghost use Rattle.av_verify.specs.Loops.{are_fresh, are_new, are_segments, arity_of, bounds_dimensions, end_with, gives_something, has_loop_entries, has_one_variable, is_index, is_index_number, is_parted, is_step, loop_agrees, loop_between, loop_op, loop_rules, lower_values, segments, segments_of, step_of, upper_values, with_names};
 
 use super::access::{after, before, has_few_results, normal_entry};
 use super::entries::{entry, has_good_entries, has_needed, map_in, marks_of, number_in};
@@ -23,7 +23,7 @@ use super::scope::{Scope, agree_on_operands};
 use super::types::{is_elem, written_scalar};
 use av_affine::{No, Seq};
 use av_ir::{Elem, Op, OpKind, Region, ValueId};
-use av_tree::{Attr, Body, BodyArg, MapText, Node};
+use av_tree::{Attr, Body, BodyArg, MapText, Node, TypeText};
 use std::alloc::{AllocError, Global};
 
 /// The greatest step.
@@ -189,7 +189,7 @@ fn has_loop_entries(node: &Node) -> bool
     has_good_entries(Row::Loop, node)
         && map_in(node, b"lowerBoundMap").is_some()
         && map_in(node, b"upperBoundMap").is_some()
-        && number_in(node, b"step").is_some()
+        && is_index_number(entry(node, b"step"))
         && segments(node).is_some()
 }
 
@@ -220,12 +220,45 @@ fn ends_with(nodes: &[Node], name: &[u8]) -> bool
     }
 }
 
+// Whether an entry is a number of type `index`.
+fn is_index_number(value: Option<&Attr>) -> bool
+    ensures { result ≡ is_index_number (option_copied value.entry) }
+{
+    match value {
+        Some(
+            Attr::Number {
+                ty: TypeText::Scalar(name),
+                ..
+            },
+        ) => name.as_slice() == b"index".as_slice(),
+        _ => false,
+    }
+}
+
 // The numbers of the operands of both bounds and of the carried values.
 fn segments(node: &Node) -> Option<&[i128]>
     ensures { option_copied result ≡ segments node.now }
 {
-    match entry(node, b"operandSegmentSizes") {
-        Some(Attr::Array { numbers, .. }) => Some(numbers.as_slice()),
+    numbers_of(entry(node, b"operandSegmentSizes"))
+}
+
+// The numbers of an array of type `i32`.
+fn numbers_of(value: Option<&Attr>) -> Option<&[i128]>
+    ensures { option_copied result ≡ segments_of (option_copied value.entry) }
+{
+    match value {
+        Some(
+            Attr::Array {
+                elem: TypeText::Scalar(name),
+                numbers,
+            },
+        ) => {
+            if name.as_slice() == b"i32".as_slice() {
+                Some(numbers.as_slice())
+            } else {
+                None
+            }
+        }
         _ => None,
     }
 }

@@ -1,5 +1,5 @@
 -- The pieces of expressions, maps and sets that were read are spaced.
-use Rattle.std.proofs.Common.{◌≡◌, ℕ, suc, ℤ, pos, negsuc, Bool, true, false, cond, List, [], ◌∷◌, ◌++◌, length, map, Option, Some, None, refl, sym, ◌∙◌, ap, subst, codes, arith}
+use Rattle.std.proofs.Common.{◌≡◌, ℕ, suc, ℤ, pos, negsuc, Bool, true, false, cond, List, [], ◌∷◌, ◌++◌, length, map, Option, Some, None, refl, sym, ◌∙◌, ap, subst, codes, arith, take, drop}
 use Rattle.std.specs.Prelude.{nat_lt, nat_eq, decimal}
 use Rattle.std.specs.List.{All}
 use Rattle.std.proofs.lemmas.Bool.{false≢true}
@@ -148,7 +148,7 @@ named-value text h = record {
 pub sound-value : (text : List ℕ) → IsValue text → Sound (e.value text)
 sound-value text h = (named-value text h).sound
 
-opens-value : (text : List ℕ) → IsValue text → Opens (e.value text)
+pub opens-value : (text : List ℕ) → IsValue text → Opens (e.value text)
 opens-value text h = opens-shuts (e.value text) (named-value text h).shuts
 
 abbrev IsPlaced : Option (List ℕ) → Type 0
@@ -378,18 +378,27 @@ sound-set s h =
     (all_mapped IsReadRow Sound e.row_pieces sound-row s.rows h.rows)
 
 -- ---- maps with their operands
-pub sound-map_use : (m : MapText) (operands : List (List ℕ)) → IsReadMap m → All IsValue operands → Sound (e.map_use m operands)
-unfolding e.map_use
-sound-map_use m operands h v =
-    let ds : List (List ℕ) = e.dim_values m operands in
-    let ss : List (List ℕ) = e.sym_values m operands in
-    let of_ds = All-take IsValue (length m.dims) operands v in
-    let of_ss = All-drop IsValue (length m.dims) operands v in
-    free-sound (e.map_pieces m ++ in_round (commas (map e.value ds))) (e.square_if_any (map e.value ss))
-    (sound-free (e.map_pieces m) (in_round (commas (map e.value ds))) (sound-map m h)
+-- so many operands of dimensions and those of symbols, behind pieces
+sound-applied_to : (first : List Piece) (dims : ℕ) (operands : List (List ℕ)) → Sound first → All IsValue operands
+    → Sound (first ++ in_round (commas (map e.value (take dims operands))) ++ e.square_if_any (map e.value (drop dims operands)))
+sound-applied_to first dims operands h v =
+    let ds : List (List ℕ) = take dims operands in
+    let ss : List (List ℕ) = drop dims operands in
+    let of_ds = All-take IsValue dims operands v in
+    let of_ss = All-drop IsValue dims operands v in
+    free-sound (first ++ in_round (commas (map e.value ds))) (e.square_if_any (map e.value ss))
+    (sound-free first (in_round (commas (map e.value ds))) h
     (free-in_round (commas (map e.value ds)) (sound-commas (map e.value ds) (all_mapped IsValue Sound e.value sound-value ds of_ds)))
     (divides-in_round (commas (map e.value ds))))
     (sound-square (map e.value ss) (all_mapped IsValue Sound e.value sound-value ss of_ss) (all_mapped IsValue Opens e.value opens-value ss of_ss))
+
+pub sound-map_use : (m : MapText) (operands : List (List ℕ)) → IsReadMap m → All IsValue operands → Sound (e.map_use m operands)
+unfolding e.map_use
+sound-map_use m operands h v = sound-applied_to (e.map_pieces m) (length m.dims) operands (sound-map m h) v
+
+pub sound-set_use : (s : SetText) (operands : List (List ℕ)) → IsReadSet s → All IsValue operands → Sound (e.set_use s operands)
+unfolding e.set_use
+sound-set_use s operands h v = sound-applied_to (e.set_pieces s) (length s.dims) operands (sound-set s h) v
 
 pub sound-subscripts : (m : MapText) (operands : List (List ℕ)) → IsReadMap m → All IsValue operands → Sound (e.subscripts m operands)
 unfolding e.subscripts
@@ -424,7 +433,7 @@ short-top _ (remainder a b h k) = subst HasShort (sym (ap out-ExprText (sym (rol
 short-top _ (floored a b h k) = subst HasShort (sym (ap out-ExprText (sym (rolls-Floor a b)) ∙ out-roll-ExprText (open_expr.Floor a b))) tt
 short-top _ (ceiled a b h k) = subst HasShort (sym (ap out-ExprText (sym (rolls-Ceil a b)) ∙ out-roll-ExprText (open_expr.Ceil a b))) tt
 
-sound-first : (operands : List (List ℕ)) → All IsValue operands → Sound (e.first_value operands)
+pub sound-first : (operands : List (List ℕ)) → All IsValue operands → Sound (e.first_value operands)
 unfolding e.first_value
 sound-first [] v = sound-none
 sound-first (o ∷ operands) v = sound-value o (All-head IsValue o operands v)

@@ -11,6 +11,8 @@ pub mod AttrParts
 pub mod Said
 pub mod LineParts
 pub mod Names
+pub mod Heads
+pub mod PatternParts
 pub mod Lines
 pub mod NodeParts
 pub mod EachForm

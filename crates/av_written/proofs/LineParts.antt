@@ -134,7 +134,7 @@ unfolding o.known_type
 sound-known_type None h = sound-question
 sound-known_type (Some ty) h = sound-type ty h
 
-sound-known_types : (types : List (Option TypeText)) → All IsReadTypeIf types → Sound (o.known_types types)
+pub sound-known_types : (types : List (Option TypeText)) → All IsReadTypeIf types → Sound (o.known_types types)
 unfolding o.known_types
 sound-known_types types h =
     sound-commas (map o.known_type types) (all_mapped IsReadTypeIf Sound o.known_type sound-known_type types h)
@@ -234,7 +234,7 @@ sound-constant_value None h = sound-none
 sound-constant_value (Some a) h = attributes-law a h
 
 -- ---- loops
-sound-variable : (args : List BodyArg) → All IsReadArg args → Sound (o.variable args)
+pub sound-variable : (args : List BodyArg) → All IsReadArg args → Sound (o.variable args)
 unfolding o.variable
 sound-variable [] h = sound-none
 sound-variable (a ∷ args) h = sound-name a.name (All-head IsReadArg a args h).0
@@ -325,7 +325,7 @@ tail-carried_behind args (first ∷ others) types h k t =
     (divides-append begin pairs (divides-append space (plain (codes "iter_args")) divides-space))))
 
 -- ---- accesses
-divides-open_square : (ps : List Piece) → Divides (sign OpenSquare ++ ps)
+pub divides-open_square : (ps : List Piece) → Divides (sign OpenSquare ++ ps)
 unfolding spelt sign in_class
 divides-open_square ps rest = refl
 

@@ -9,13 +9,15 @@ use Rattle.av_tree.specs.declared.written.MapText.{MapText}
 use Rattle.av_printer.specs.declared.form.Form.TheVariants as forms
 use Rattle.av_printer.specs.declared.named.NamedForm.{NamedForm}
 use Rattle.av_printer.specs.declared.named.NamedForm.TheVariants as own
+use Rattle.av_printer.specs.declared.pattern.Pattern.{Pattern}
 use Rattle.av_printer.specs.Pieces.{Piece, space, sign, plain, comma, spaced}
 use Rattle.av_printer.specs.Expressions.{value}
 use Rattle.av_printer.specs.Operations as o
+use Rattle.av_printer.specs.OwnForms as f
+use Rattle.av_printer.specs.Patterns.{parts_of, last_parts_of, parts_pieces, pattern_line, pattern_end}
 use Rattle.av_written.specs.Spacing.{lengthens, IsWord}
 use Rattle.av_written.specs.ReadExpressions.{IsValue}
-use Rattle.av_written.specs.ReadAttributes.{AreReadEntries}
-use Rattle.av_written.specs.ReadNodes.{IsReadArg, IsReadTypeIf, HasSymbol}
+use Rattle.av_written.specs.ReadNodes.{IsReadTypeIf, HasSymbol}
 use Rattle.av_written.proofs.Parts.{Free, Sound, Tail, free-none, free-append, free-sound, sound-free, sound-of_free, sound-divides, divides-append, free-token, sound-word, free-comma, divides-comma, all_mapped, tail-none, tail-divides, sound-tail, tail-append}
 use Rattle.av_written.proofs.Words.{is_word}
 use Rattle.av_written.proofs.Firsts.{divides-spaced}
@@ -23,7 +25,9 @@ use Rattle.av_written.proofs.TypeParts.{sound-one_or_several}
 use Rattle.av_written.proofs.ExprParts.{sound-value}
 use Rattle.av_written.proofs.Said.{IsReadIf, IsReadMapIf, read-property, read-map_of, short-step_of, read-results_of}
 use Rattle.av_written.proofs.LineParts.{free-between_colon, free-between_arrow, free-word, free-arguments, divides-arguments, sound-values, free-values_in_round, sound-known_type, free-known_in_round, tail-first_type, tail-values_behind, tail-marks, tail-properties, tail-results_behind, sound-function_name, tail-attributes_word, sound-constant_value, free-loop_start, sound-bounds_between, tail-step_behind, tail-carried_behind, sound-buffer}
-use Rattle.av_written.proofs.Names.{function-name, binary-name}
+use Rattle.av_written.proofs.Names.{function-name, binary-name, pattern-name}
+use Rattle.av_written.proofs.Heads.{ReadHead}
+use Rattle.av_written.proofs.PatternParts.{parts-fit, last_parts-fit, tail-parts}
 
 -- ---- words
 module_word : IsWord kinds.Word (codes "module")
@@ -50,16 +54,6 @@ store_word : IsWord kinds.Word (codes "affine.store")
 unfolding in_class
 store_word = is_word (codes "affine.store") refl
 
--- ---- an operation beside its regions
-pub record ReadHead (h : o.Head) : Type 0 where
-  pub named : IsWord kinds.Quoted (codes "\"" ++ h.name ++ codes "\"")
-  pub uses : All IsValue h.operands
-  pub says : AreReadEntries h.properties
-  pub marked : AreReadEntries h.attrs
-  pub takes : All IsReadTypeIf h.in_types
-  pub gives : All IsReadTypeIf h.out_types
-  pub within : All IsReadArg h.arguments
-
 -- what a form of its own asks besides
 abbrev pub Suits : NamedForm → o.Head → Type 0
 Suits own.Function h = IsWord kinds.SymId (codes "@" ++ o.text_of (o.property h.properties (codes "sym_name")))
@@ -71,8 +65,9 @@ Suits own.Loop h = Unit {0}
 Suits own.Yield h = Unit {0}
 Suits own.Load h = Unit {0}
 Suits own.Store h = Unit {0}
+Suits (own.Pattern pattern) h = IsWord kinds.Word h.name
 
-pub suits : (form : NamedForm) (h : o.Head) → HasSymbol forms.Named h.name h.properties → o.own_form h.name ≡ Some form → Suits form h
+pub suits : (form : NamedForm) (h : o.Head) → HasSymbol forms.Named h.name h.properties → f.own_form h.name ≡ Some form → Suits form h
 suits own.Function h s e = s (function-name h.name e)
 suits own.Binary h s e = binary-name h.name e
 suits own.Module h s e = tt
@@ -82,6 +77,7 @@ suits own.Loop h s e = tt
 suits own.Yield h s e = tt
 suits own.Load h s e = tt
 suits own.Store h s e = tt
+suits (own.Pattern pattern) h s e = pattern-name h.name pattern e
 
 module _ (h : o.Head) (r : ReadHead h) where
   read-property_of : (name : List ℕ) → IsReadIf (o.property h.properties name)
@@ -184,7 +180,16 @@ module _ (h : o.Head) (r : ReadHead h) where
       (sound-access (drop 1 h.operands) (All-drop IsValue 1 h.operands r.uses)))
       (tail-first_type (drop 1 h.in_types) (All-drop IsReadTypeIf 1 h.in_types r.takes))
 
-  pub sound-own_line : (form : NamedForm) → Suits form h → Sound (o.own_line form h)
+  sound-pattern_line : (pattern : Pattern) → IsWord kinds.Word h.name → Sound (pattern_line pattern h)
+  unfolding pattern_line
+  sound-pattern_line pattern w =
+      sound-tail (plain h.name) (parts_pieces h (parts_of pattern)) (sound-word h.name w) (tail-parts h r (parts_of pattern) (parts-fit pattern))
+
+  tail-pattern_end : (pattern : Pattern) → Tail (pattern_end pattern h)
+  unfolding pattern_end
+  tail-pattern_end pattern = tail-parts h r (last_parts_of pattern) (last_parts-fit pattern)
+
+  pub sound-own_line : (form : NamedForm) → Suits form h → Sound (f.own_line form h)
   sound-own_line own.Module s = sound-word (codes "module") module_word
   sound-own_line own.Function s = sound-function_line s
   sound-own_line own.Return s = sound-end_line (codes "return") return_word
@@ -194,8 +199,9 @@ module _ (h : o.Head) (r : ReadHead h) where
   sound-own_line own.Yield s = sound-end_line (codes "affine.yield") yield_word
   sound-own_line own.Load s = sound-load_line
   sound-own_line own.Store s = sound-store_line
+  sound-own_line (own.Pattern pattern) s = sound-pattern_line pattern s
 
-  pub tail-own_end : (form : NamedForm) → Tail (o.own_end form h)
+  pub tail-own_end : (form : NamedForm) → Tail (f.own_end form h)
   tail-own_end own.Module = tail-none
   tail-own_end own.Function = tail-none
   tail-own_end own.Return = tail-none
@@ -205,6 +211,7 @@ module _ (h : o.Head) (r : ReadHead h) where
   tail-own_end own.Yield = tail-none
   tail-own_end own.Load = tail-none
   tail-own_end own.Store = tail-none
+  tail-own_end (own.Pattern pattern) = tail-pattern_end pattern
 
   -- ---- the form that all have in common
   free-quoted_name : Free (o.quoted_name h.name)

@@ -13,17 +13,20 @@ use Rattle.av_tree.specs.declared.node.Body.{Body, out-Body}
 use Rattle.av_printer.specs.declared.form.Form.{Form}
 use Rattle.av_printer.specs.declared.form.Form.TheVariants as forms
 use Rattle.av_printer.specs.declared.named.NamedForm.{NamedForm}
-use Rattle.av_printer.specs.Pieces.{Piece, space, new_line, token, sign, commas, joined, in_round}
-use Rattle.av_printer.specs.Operations.{Head, first_of, head_of, own_line, own_end, own_form, common_line, common_end, results_before, arguments_pieces}
-use Rattle.av_printer.specs.Spelling.{Operation, on_line, left_out, label, common_regions, form_of, operation_of, node_line, own_body, common_body}
+use Rattle.av_printer.specs.Pieces.{Piece, space, new_line, token, sign, plain, commas, joined, in_round}
+use Rattle.av_printer.specs.OwnForms.{own_line, own_end, own_form}
+use Rattle.av_printer.specs.Operations.{Head, first_of, head_of, common_line, common_end, results_before, arguments_pieces}
+use Rattle.av_printer.specs.Spelling.{Operation, on_line, left_out, else_region, label, common_regions, form_of, operation_of, region_of, node_line, own_body, else_body, own_bodies, common_body}
 use Rattle.av_printer.proofs.NodeSteps.{whole-own, whole-common, own-of, common-of}
 use Rattle.av_written.specs.Spacing.{IsWord}
 use Rattle.av_written.specs.ReadNodes.{IsReadArg, HasSymbol, IsReadLine, IsReadNode, node, AreReadBodies, no_bodies, one_body_more, AreReadNodes, no_nodes, one_node_more}
 use Rattle.av_written.specs.WrittenLaws.{TreesLaw}
-use Rattle.av_written.proofs.Parts.{Free, Sound, AllOf, Tail, Tame, free-append, free-sound, sound-free, sound-of_free, divides-append, free-none, free-space, divides-space, free-new_line, divides-new_line, sound-token, free-open_curly, free-close_curly, free-in_round, sound-commas, tail-none, tail-divides, sound-tail, tail-joined}
+use Rattle.av_written.proofs.Parts.{Free, Sound, AllOf, Tail, Tame, free-append, free-sound, sound-free, sound-of_free, divides-append, free-none, free-space, divides-space, free-new_line, divides-new_line, sound-token, free-open_curly, free-close_curly, free-in_round, sound-commas, tail-none, tail-divides, sound-tail, tail-append, tail-joined, sound-word}
 use Rattle.av_written.proofs.ExprParts.{either, free-colon_alone}
 use Rattle.av_written.proofs.LineParts.{free-results_before, free-arguments, divides-arguments}
-use Rattle.av_written.proofs.Lines.{ReadHead, suits, sound-own_line, tail-own_end, sound-common_line, tail-common_end}
+use Rattle.av_written.proofs.Heads.{ReadHead}
+use Rattle.av_written.proofs.Words.{is_word}
+use Rattle.av_written.proofs.Lines.{suits, sound-own_line, tail-own_end, sound-common_line, tail-common_end}
 
 -- ---- heads
 read-arguments : (form : Form) (bodies : List Body) → AreReadBodies form bodies
@@ -111,6 +114,29 @@ tail-own depth b t =
     (divides-append (begin ++ lines) (new_line depth)
     (divides-append begin lines (divides-append space (sign OpenCurly) divides-space)))))
 
+else_word : IsWord kinds.Word (codes "else")
+unfolding in_class
+else_word = is_word (codes "else") refl
+
+-- a region behind `else`, which may not be there
+tail-else : (depth : ℕ) (b : Body) → Tail (own_body depth b) → Tail (else_body depth b)
+unfolding else_region
+tail-else depth b t =
+    let word : List Piece = space ++ plain (codes "else") in
+    either Tail (region_of b).silent [] (word ++ own_body depth b) (λ e. tail-none)
+    (λ e. tail-append word (own_body depth b)
+    (tail-divides word (free-sound space (plain (codes "else")) free-space (sound-word (codes "else") else_word)) (divides-append space (plain (codes "else")) divides-space)) t)
+
+tail-elses : (depth : ℕ) (bodies : List Body) → AllOf Tail (map (own_body depth) bodies) → AllOf Tail (map (else_body depth) bodies)
+unfolding AllOf
+tail-elses depth [] h = tt
+tail-elses depth (b ∷ bodies) h = (tail-else depth b h.0, tail-elses depth bodies h.1)
+
+tail-own_bodies : (depth : ℕ) (bodies : List Body) → AllOf Tail (map (own_body depth) bodies) → AllOf Tail (own_bodies depth bodies)
+unfolding AllOf
+tail-own_bodies depth [] h = tt
+tail-own_bodies depth (b ∷ bodies) h = (h.0, tail-elses depth bodies h.1)
+
 sound-common : (depth : ℕ) (b : Body) → All IsReadArg (out-Body b).args
     → Tail (joined (map (node_line forms.Generic (depth + 1)) (out-Body b).nodes)) → Sound (common_body depth b)
 sound-common depth b h t =
@@ -141,12 +167,12 @@ module _ (n : Node) (r : ReadHead (head_of n)) (results : Free (results_before (
       → AllOf Tail (map (own_body depth) (out-Node n).regions) → Sound ((operation_of n).whole forms.Named depth)
   sound-own_node depth named e s t =
       let h : Head = head_of n in
-      let regions : List Piece = joined (map (own_body depth) (out-Node n).regions) in
+      let regions : List Piece = joined (own_bodies depth (out-Node n).regions) in
       subst Sound (sym (whole-own n forms.Named depth named e))
       (free-sound (results_before (out-Node n).results) (own_line named h ++ regions ++ own_end named h) results
       (sound-tail (own_line named h ++ regions) (own_end named h)
       (sound-tail (own_line named h) regions (sound-own_line h r named (suits named h s e))
-      (tail-joined (map (own_body depth) (out-Node n).regions) t))
+      (tail-joined (own_bodies depth (out-Node n).regions) (tail-own_bodies depth (out-Node n).regions t)))
       (tail-own_end h r named)))
 
   sound-common_node : (form : Form) (depth : ℕ) → form_of form (out-Node n).name ≡ None

@@ -1,5 +1,7 @@
 -- What attributes that were read say to the lines of operations.
 use Rattle.std.proofs.Common.{ℕ, List, Option, Some, None, sym, ◌∙◌, ap, subst, arith}
+use Rattle.std.specs.List.{All}
+use Rattle.av_lex.specs.declared.token.Kind.TheVariants as kinds
 use Rattle.av_tree.specs.declared.written.TypeText.{TypeText, TypeText-F, out-TypeText, out-roll-TypeText}
 use Rattle.av_tree.specs.declared.written.TypeText.TheVariants as type_rolls
 use Rattle.av_tree.specs.declared.written.TypeText.TheOpen as open_type
@@ -11,30 +13,35 @@ use Rattle.av_tree.specs.declared.attribute.Named.{Named, out-Named}
 use Rattle.av_printer.specs.Expressions.{same}
 use Rattle.av_printer.specs.Operations.{property, map_in, map_of, number_in, step_of, results_in_type, results_of_type, results_in, results_of}
 use Rattle.av_written.specs.ReadTypes.{IsReadType, AreReadTypes, scalar, mem_ref, vector, func, none}
-use Rattle.av_written.specs.ReadExpressions.{IsShortInteger, IsReadMap}
+use Rattle.av_written.specs.Spacing.{IsWord}
+use Rattle.av_written.specs.ReadExpressions.{IsShortInteger, IsReadMap, IsReadSet}
 use Rattle.av_written.specs.ReadAttributes.{IsReadAttr, number, truth, quoted, symbol, typed, mapped, bounded, alias, hashed, list, dictionary, array, dense, lone, AreReadEntries, no_entries, one_entry_more}
 use Rattle.av_written.proofs.ExprParts.{either}
 
 -- ---- one level of an attribute
-abbrev Says : Attr-F Attr Named → Type 0
+abbrev pub Says : Attr-F Attr Named → Type 0
 Says (open_attr.Map m) = IsReadMap m
+Says (open_attr.Set s) = IsReadSet s
+Says (open_attr.AliasUse text) = IsWord kinds.HashId text
+Says (open_attr.Hash text words) = All (IsWord kinds.Word) words
+Says (open_attr.Array elem numbers) = All IsShortInteger numbers
 Says (open_attr.Number z ty) = IsShortInteger z
 Says (open_attr.Type ty) = IsReadType ty
 Says other = Unit {0}
 
-says : (a : Attr) → IsReadAttr a → Says (out-Attr a)
+pub says : (a : Attr) → IsReadAttr a → Says (out-Attr a)
 says _ (number z ty h k) = subst Says (sym (ap out-Attr (sym (attr_rolls.rolls-Number z ty)) ∙ out-roll-Attr (open_attr.Number z ty))) h
 says _ (truth b) = subst Says (sym (ap out-Attr (sym (attr_rolls.rolls-Bool b)) ∙ out-roll-Attr (open_attr.Bool b))) tt
 says _ (quoted text w) = subst Says (sym (ap out-Attr (sym (attr_rolls.rolls-Quoted text)) ∙ out-roll-Attr (open_attr.Quoted text))) tt
 says _ (symbol text w) = subst Says (sym (ap out-Attr (sym (attr_rolls.rolls-Symbol text)) ∙ out-roll-Attr (open_attr.Symbol text))) tt
 says _ (typed ty h) = subst Says (sym (ap out-Attr (sym (attr_rolls.rolls-Type ty)) ∙ out-roll-Attr (open_attr.Type ty))) h
 says _ (mapped m h) = subst Says (sym (ap out-Attr (sym (attr_rolls.rolls-Map m)) ∙ out-roll-Attr (open_attr.Map m))) h
-says _ (bounded s h) = subst Says (sym (ap out-Attr (sym (attr_rolls.rolls-Set s)) ∙ out-roll-Attr (open_attr.Set s))) tt
-says _ (alias text w) = subst Says (sym (ap out-Attr (sym (attr_rolls.rolls-AliasUse text)) ∙ out-roll-Attr (open_attr.AliasUse text))) tt
-says _ (hashed text words w h) = subst Says (sym (ap out-Attr (sym (attr_rolls.rolls-Hash text words)) ∙ out-roll-Attr (open_attr.Hash text words))) tt
+says _ (bounded s h) = subst Says (sym (ap out-Attr (sym (attr_rolls.rolls-Set s)) ∙ out-roll-Attr (open_attr.Set s))) h
+says _ (alias text w) = subst Says (sym (ap out-Attr (sym (attr_rolls.rolls-AliasUse text)) ∙ out-roll-Attr (open_attr.AliasUse text))) w
+says _ (hashed text words w h) = subst Says (sym (ap out-Attr (sym (attr_rolls.rolls-Hash text words)) ∙ out-roll-Attr (open_attr.Hash text words))) h
 says _ (list items h) = subst Says (sym (ap out-Attr (sym (attr_rolls.rolls-List items)) ∙ out-roll-Attr (open_attr.List items))) tt
 says _ (dictionary entries h) = subst Says (sym (ap out-Attr (sym (attr_rolls.rolls-Dictionary entries)) ∙ out-roll-Attr (open_attr.Dictionary entries))) tt
-says _ (array elem numbers h k) = subst Says (sym (ap out-Attr (sym (attr_rolls.rolls-Array elem numbers)) ∙ out-roll-Attr (open_attr.Array elem numbers))) tt
+says _ (array elem numbers h k) = subst Says (sym (ap out-Attr (sym (attr_rolls.rolls-Array elem numbers)) ∙ out-roll-Attr (open_attr.Array elem numbers))) k
 says _ (dense x ty h k) = subst Says (sym (ap out-Attr (sym (attr_rolls.rolls-Dense x ty)) ∙ out-roll-Attr (open_attr.Dense x ty))) tt
 says _ lone = subst Says (sym (ap out-Attr (sym attr_rolls.rolls-Unit) ∙ out-roll-Attr open_attr.Unit)) tt
 

@@ -11,13 +11,13 @@ use Rattle.av_tree.specs.declared.table.regions.RegionName.TheVariants as region
 use Rattle.av_tree.specs.declared.table.types.TypeName.TheVariants as types_name
 use Rattle.av_tree.specs.declared.table.values.ValueName.TheVariants as values_name
 use Rattle.av_lex.specs.declared.token.Sign.TheVariants as sign
+use Rattle.av_tree.specs.declared.class.Keyword.TheVariants as key
 use Rattle.av_tree.specs.declared.table.Test.TheVariants as test
 use Rattle.av_tree.specs.declared.class.Class.{Class}
 use Rattle.av_tree.specs.declared.class.Class.TheVariants as class
 use Rattle.av_tree.specs.declared.table.Rule.{Rule}
 use Rattle.av_tree.specs.declared.table.Rule.TheVariants as rule
 use Rattle.av_tree.specs.declared.table.regions.RegionName.{RegionName}
-use Rattle.av_tree.specs.declared.class.Keyword.TheVariants as key
 
 abbrev pub symbols_of : RegionRule → List Symbol
 symbols_of regions_rule.NoMoreOperations = []

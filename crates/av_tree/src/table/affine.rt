@@ -22,8 +22,10 @@ pub enum AffineName {
     Carried,
     MoreCarried,
     MapUse,
+    SetUse,
     MapOperands,
     SymbolOperands,
+    OptionalElse,
 }
 
 /// The rows of operations of the Affine dialect, each with its symbols.
@@ -31,6 +33,10 @@ pub enum AffineName {
 pub enum AffineRule {
     /// Form: `'affine.for' ValId '=' LowerBound 'to' UpperBound OptionalStep OptionalIterArgs Region OptionalDictionary`
     AffineFor,
+    /// Form: `'affine.if' SetUse OptionalResultTypes Region OptionalElse`
+    AffineIf,
+    /// Form: `MapOp MapUse`
+    AffineMapOp,
     /// Form: `'affine.load' Value '[' Subscripts ']' OptionalDictionary ':' MemRef`
     AffineLoad,
     /// Form: `'affine.store' Value ',' Value '[' Subscripts ']' OptionalDictionary ':' MemRef`
@@ -67,12 +73,22 @@ pub enum AffineRule {
     NextCarried,
     /// MapUse: `AffineMap MapOperands`
     MapWritten,
+    /// MapUse: `HashId MapOperands`
+    MapByAlias,
+    /// SetUse: `AffineSet MapOperands`
+    SetWritten,
+    /// SetUse: `HashId MapOperands`
+    SetByAlias,
     /// MapOperands: `'(' Values ')' SymbolOperands`
     DimensionOperands,
     /// SymbolOperands: nothing
     NoSymbolOperands,
     /// SymbolOperands: `'[' Values ']'`
     WrittenSymbolOperands,
+    /// OptionalElse: nothing
+    NoElse,
+    /// OptionalElse: `'else' Region`
+    WrittenElse,
 }
 
 pub(super) fn symbols(rule: AffineRule) -> &'static [Symbol]
@@ -90,6 +106,17 @@ pub(super) fn symbols(rule: AffineRule) -> &'static [Symbol]
             Symbol::Rows(Name::Affine(AffineName::OptionalIterArgs)),
             Symbol::Rows(Name::Region(RegionName::Region)),
             Symbol::Rows(Name::Attribute(AttributeName::OptionalDictionary)),
+        ],
+        AffineRule::AffineIf => &[
+            Symbol::Word(Keyword::AffineIf),
+            Symbol::Rows(Name::Affine(AffineName::SetUse)),
+            Symbol::Rows(Name::Type(TypeName::OptionalResultTypes)),
+            Symbol::Rows(Name::Region(RegionName::Region)),
+            Symbol::Rows(Name::Affine(AffineName::OptionalElse)),
+        ],
+        AffineRule::AffineMapOp => &[
+            Symbol::Token(Test::MapOp),
+            Symbol::Rows(Name::Affine(AffineName::MapUse)),
         ],
         AffineRule::AffineLoad => &[
             Symbol::Word(Keyword::AffineLoad),
@@ -165,6 +192,18 @@ pub(super) fn symbols(rule: AffineRule) -> &'static [Symbol]
             Symbol::Rows(Name::Map(MapName::AffineMap)),
             Symbol::Rows(Name::Affine(AffineName::MapOperands)),
         ],
+        AffineRule::MapByAlias => &[
+            Symbol::Token(Test::HashId),
+            Symbol::Rows(Name::Affine(AffineName::MapOperands)),
+        ],
+        AffineRule::SetWritten => &[
+            Symbol::Rows(Name::Map(MapName::AffineSet)),
+            Symbol::Rows(Name::Affine(AffineName::MapOperands)),
+        ],
+        AffineRule::SetByAlias => &[
+            Symbol::Token(Test::HashId),
+            Symbol::Rows(Name::Affine(AffineName::MapOperands)),
+        ],
         AffineRule::DimensionOperands => &[
             Symbol::Sign(Sign::OpenRound),
             Symbol::Rows(Name::Value(ValueName::Values)),
@@ -176,6 +215,11 @@ pub(super) fn symbols(rule: AffineRule) -> &'static [Symbol]
             Symbol::Sign(Sign::OpenSquare),
             Symbol::Rows(Name::Value(ValueName::Values)),
             Symbol::Sign(Sign::CloseSquare),
+        ],
+        AffineRule::NoElse => &[],
+        AffineRule::WrittenElse => &[
+            Symbol::Word(Keyword::Else),
+            Symbol::Rows(Name::Region(RegionName::Region)),
         ],
     }
 }
@@ -194,9 +238,11 @@ pub(super) fn choose(name: AffineName, class: Class) -> Rule
             _ => Rule::Affine(AffineRule::PlainUpperBound),
         },
         AffineName::Bound => match class {
+            Class::Sign(Sign::Minus) | Class::Zero | Class::Positive => Rule::Affine(
+                AffineRule::NumberBound,
+            ),
             Class::ValId => Rule::Affine(AffineRule::ValueBound),
-            Class::Word(Keyword::AffineMap) => Rule::Affine(AffineRule::MapBound),
-            _ => Rule::Affine(AffineRule::NumberBound),
+            _ => Rule::Affine(AffineRule::MapBound),
         },
         AffineName::OptionalStep => match class {
             Class::Word(Keyword::Step) => Rule::Affine(AffineRule::WrittenStep),
@@ -214,11 +260,22 @@ pub(super) fn choose(name: AffineName, class: Class) -> Rule
             Class::Sign(Sign::Comma) => Rule::Affine(AffineRule::NextCarried),
             _ => Rule::Affine(AffineRule::NoMoreCarried),
         },
-        AffineName::MapUse => Rule::Affine(AffineRule::MapWritten),
+        AffineName::MapUse => match class {
+            Class::Word(Keyword::AffineMap) => Rule::Affine(AffineRule::MapWritten),
+            _ => Rule::Affine(AffineRule::MapByAlias),
+        },
+        AffineName::SetUse => match class {
+            Class::Word(Keyword::AffineSet) => Rule::Affine(AffineRule::SetWritten),
+            _ => Rule::Affine(AffineRule::SetByAlias),
+        },
         AffineName::MapOperands => Rule::Affine(AffineRule::DimensionOperands),
         AffineName::SymbolOperands => match class {
             Class::Sign(Sign::OpenSquare) => Rule::Affine(AffineRule::WrittenSymbolOperands),
             _ => Rule::Affine(AffineRule::NoSymbolOperands),
+        },
+        AffineName::OptionalElse => match class {
+            Class::Word(Keyword::Else) => Rule::Affine(AffineRule::WrittenElse),
+            _ => Rule::Affine(AffineRule::NoElse),
         },
     }
 }
@@ -228,16 +285,21 @@ pub(super) fn need(rule: AffineRule) -> u32
     ensures { result ≡ need_of (Rule.Affine rule) }
 {
     match rule {
-        AffineRule::GreatestOf
-        | AffineRule::LeastOf
-        | AffineRule::MapBound
-        | AffineRule::MapWritten => 2,
+        AffineRule::MapWritten | AffineRule::SetWritten => 2,
         AffineRule::AffineFor
+        | AffineRule::AffineIf
+        | AffineRule::AffineMapOp
         | AffineRule::AffineLoad
         | AffineRule::AffineStore
+        | AffineRule::GreatestOf
+        | AffineRule::LeastOf
+        | AffineRule::MapBound
         | AffineRule::WrittenIterArgs
+        | AffineRule::MapByAlias
+        | AffineRule::SetByAlias
         | AffineRule::DimensionOperands
-        | AffineRule::WrittenSymbolOperands => 1,
+        | AffineRule::WrittenSymbolOperands
+        | AffineRule::WrittenElse => 1,
         _ => 0,
     }
 }

@@ -2,9 +2,10 @@
 
 ghost use Rattle.std.specs.Prelude.{◌≡◌};
 ghost use Rattle.av_tree.specs.rows.ArithRows.{symbols_of, choice_of};
+ghost use Rattle.av_tree.specs.Needs.{need_of};
 ghost use Rattle.av_tree.specs.Table.{name_of};
 
-use super::{Class, Keyword, Name, Rule, Symbol, Test, TypeName, ValueName};
+use super::{AttributeName, Class, Keyword, Name, Rule, Symbol, Test, TypeName, ValueName};
 use av_lex::Sign;
 
 /// The names of operations of the Arith dialect.
@@ -13,6 +14,8 @@ pub enum ArithName {
     Constant,
     OptionalOverflow,
     MoreOverflowFlags,
+    SelectedTypes,
+    AfterVector,
 }
 
 /// The rows of operations of the Arith dialect, each with its symbols.
@@ -20,10 +23,22 @@ pub enum ArithName {
 pub enum ArithRule {
     /// Form: `'arith.constant' Constant`
     ArithConstant,
-    /// Constant: `Integer ':' Type`
-    NumberConstant,
     /// Form: `Overflowing Value ',' Value OptionalOverflow ':' Type`
     ArithOverflowing,
+    /// Form: `Binary Value ',' Value ':' Type`
+    ArithBinary,
+    /// Form: `'arith.cmpi' Predicate ',' Value ',' Value ':' Type`
+    ArithCmpi,
+    /// Form: `'arith.select' Value ',' Value ',' Value ':' SelectedTypes`
+    ArithSelect,
+    /// Form: `Cast Value ':' Type 'to' Type`
+    ArithCast,
+    /// Constant: `Bool`
+    BoolConstant,
+    /// Constant: `Integer ':' Type`
+    NumberConstant,
+    /// Constant: `Dense`
+    DenseConstant,
     /// OptionalOverflow: nothing
     NoOverflow,
     /// OptionalOverflow: `'overflow' '<' OverflowFlag MoreOverflowFlags '>'`
@@ -32,6 +47,16 @@ pub enum ArithRule {
     NoMoreOverflowFlags,
     /// MoreOverflowFlags: `',' OverflowFlag MoreOverflowFlags`
     NextOverflowFlag,
+    /// SelectedTypes: `Scalar`
+    ScalarSelected,
+    /// SelectedTypes: `MemRef`
+    BufferSelected,
+    /// SelectedTypes: `Vector AfterVector`
+    VectorThenSelected,
+    /// AfterVector: nothing
+    OnlySelected,
+    /// AfterVector: `',' Type`
+    SelectedByVector,
 }
 
 pub(super) fn symbols(rule: ArithRule) -> &'static [Symbol]
@@ -42,11 +67,6 @@ pub(super) fn symbols(rule: ArithRule) -> &'static [Symbol]
             Symbol::Word(Keyword::ArithConstant),
             Symbol::Rows(Name::Arith(ArithName::Constant)),
         ],
-        ArithRule::NumberConstant => &[
-            Symbol::Rows(Name::Value(ValueName::Integer)),
-            Symbol::Sign(Sign::Colon),
-            Symbol::Rows(Name::Type(TypeName::Type)),
-        ],
         ArithRule::ArithOverflowing => &[
             Symbol::Token(Test::Overflowing),
             Symbol::Rows(Name::Value(ValueName::Value)),
@@ -56,6 +76,49 @@ pub(super) fn symbols(rule: ArithRule) -> &'static [Symbol]
             Symbol::Sign(Sign::Colon),
             Symbol::Rows(Name::Type(TypeName::Type)),
         ],
+        ArithRule::ArithBinary => &[
+            Symbol::Token(Test::Binary),
+            Symbol::Rows(Name::Value(ValueName::Value)),
+            Symbol::Sign(Sign::Comma),
+            Symbol::Rows(Name::Value(ValueName::Value)),
+            Symbol::Sign(Sign::Colon),
+            Symbol::Rows(Name::Type(TypeName::Type)),
+        ],
+        ArithRule::ArithCmpi => &[
+            Symbol::Word(Keyword::ArithCmpi),
+            Symbol::Token(Test::Predicate),
+            Symbol::Sign(Sign::Comma),
+            Symbol::Rows(Name::Value(ValueName::Value)),
+            Symbol::Sign(Sign::Comma),
+            Symbol::Rows(Name::Value(ValueName::Value)),
+            Symbol::Sign(Sign::Colon),
+            Symbol::Rows(Name::Type(TypeName::Type)),
+        ],
+        ArithRule::ArithSelect => &[
+            Symbol::Word(Keyword::ArithSelect),
+            Symbol::Rows(Name::Value(ValueName::Value)),
+            Symbol::Sign(Sign::Comma),
+            Symbol::Rows(Name::Value(ValueName::Value)),
+            Symbol::Sign(Sign::Comma),
+            Symbol::Rows(Name::Value(ValueName::Value)),
+            Symbol::Sign(Sign::Colon),
+            Symbol::Rows(Name::Arith(ArithName::SelectedTypes)),
+        ],
+        ArithRule::ArithCast => &[
+            Symbol::Token(Test::Cast),
+            Symbol::Rows(Name::Value(ValueName::Value)),
+            Symbol::Sign(Sign::Colon),
+            Symbol::Rows(Name::Type(TypeName::Type)),
+            Symbol::Word(Keyword::To),
+            Symbol::Rows(Name::Type(TypeName::Type)),
+        ],
+        ArithRule::BoolConstant => &[Symbol::Token(Test::Bool)],
+        ArithRule::NumberConstant => &[
+            Symbol::Rows(Name::Value(ValueName::Integer)),
+            Symbol::Sign(Sign::Colon),
+            Symbol::Rows(Name::Type(TypeName::Type)),
+        ],
+        ArithRule::DenseConstant => &[Symbol::Rows(Name::Attribute(AttributeName::Dense))],
         ArithRule::NoOverflow => &[],
         ArithRule::WrittenOverflow => &[
             Symbol::Word(Keyword::Overflow),
@@ -70,6 +133,17 @@ pub(super) fn symbols(rule: ArithRule) -> &'static [Symbol]
             Symbol::Token(Test::OverflowFlag),
             Symbol::Rows(Name::Arith(ArithName::MoreOverflowFlags)),
         ],
+        ArithRule::ScalarSelected => &[Symbol::Token(Test::Scalar)],
+        ArithRule::BufferSelected => &[Symbol::Rows(Name::Type(TypeName::MemRef))],
+        ArithRule::VectorThenSelected => &[
+            Symbol::Rows(Name::Type(TypeName::Vector)),
+            Symbol::Rows(Name::Arith(ArithName::AfterVector)),
+        ],
+        ArithRule::OnlySelected => &[],
+        ArithRule::SelectedByVector => &[
+            Symbol::Sign(Sign::Comma),
+            Symbol::Rows(Name::Type(TypeName::Type)),
+        ],
     }
 }
 
@@ -78,7 +152,11 @@ pub(super) fn choose(name: ArithName, class: Class) -> Rule
     ensures choice { result ≡ choice_of name class }
 {
     match name {
-        ArithName::Constant => Rule::Arith(ArithRule::NumberConstant),
+        ArithName::Constant => match class {
+            Class::Word(Keyword::Bool) => Rule::Arith(ArithRule::BoolConstant),
+            Class::Word(Keyword::Dense) => Rule::Arith(ArithRule::DenseConstant),
+            _ => Rule::Arith(ArithRule::NumberConstant),
+        },
         ArithName::OptionalOverflow => match class {
             Class::Word(Keyword::Overflow) => Rule::Arith(ArithRule::WrittenOverflow),
             _ => Rule::Arith(ArithRule::NoOverflow),
@@ -87,5 +165,27 @@ pub(super) fn choose(name: ArithName, class: Class) -> Rule
             Class::Sign(Sign::Comma) => Rule::Arith(ArithRule::NextOverflowFlag),
             _ => Rule::Arith(ArithRule::NoMoreOverflowFlags),
         },
+        ArithName::SelectedTypes => match class {
+            Class::Word(Keyword::MemRef) => Rule::Arith(ArithRule::BufferSelected),
+            Class::Word(Keyword::Vector) => Rule::Arith(ArithRule::VectorThenSelected),
+            _ => Rule::Arith(ArithRule::ScalarSelected),
+        },
+        ArithName::AfterVector => match class {
+            Class::Sign(Sign::Comma) => Rule::Arith(ArithRule::SelectedByVector),
+            _ => Rule::Arith(ArithRule::OnlySelected),
+        },
+    }
+}
+
+/// The least number of further brackets that are open at once in whatever a row derives.
+pub(super) fn need(rule: ArithRule) -> u32
+    ensures { result ≡ need_of (Rule.Arith rule) }
+{
+    match rule {
+        ArithRule::DenseConstant
+        | ArithRule::WrittenOverflow
+        | ArithRule::BufferSelected
+        | ArithRule::VectorThenSelected => 1,
+        _ => 0,
     }
 }

@@ -5,13 +5,17 @@ ghost use Rattle.av_tree.specs.rows.FileRows.{symbols_of, choice_of};
 ghost use Rattle.av_tree.specs.Needs.{need_of};
 ghost use Rattle.av_tree.specs.Table.{name_of};
 
-use super::{Class, FunctionName, Keyword, Name, Rule, Symbol, ValueName};
+use super::{
+    Class, FunctionName, GenericName, Keyword, MapName, Name, Rule, Symbol, Test, ValueName,
+};
+use av_lex::Sign;
 
 /// The names of files.
 #[derive(Clone, Copy)]
 pub enum FileName {
     File,
     Aliases,
+    MapOrSet,
     Content,
     TopLevel,
     MoreFunctions,
@@ -25,6 +29,12 @@ pub enum FileRule {
     WholeFile,
     /// Aliases: nothing
     NoMoreAliases,
+    /// Aliases: `HashId '=' MapOrSet Aliases`
+    NextAlias,
+    /// MapOrSet: `AffineMap`
+    AliasOfMap,
+    /// MapOrSet: `AffineSet`
+    AliasOfSet,
     /// Content: nothing
     NoContent,
     /// Content: `Results TopLevel`
@@ -33,6 +43,8 @@ pub enum FileRule {
     PlainContent,
     /// TopLevel: `Module`
     OnlyModule,
+    /// TopLevel: `ModuleString GenericParts`
+    OnlyGenericModule,
     /// TopLevel: `Function MoreFunctions`
     FirstFunction,
     /// MoreFunctions: nothing
@@ -43,6 +55,8 @@ pub enum FileRule {
     NextFunction,
     /// Function: `NamedFunction`
     WrittenFunction,
+    /// Function: `FuncString GenericParts`
+    GenericFunction,
 }
 
 pub(super) fn symbols(rule: FileRule) -> &'static [Symbol]
@@ -54,6 +68,14 @@ pub(super) fn symbols(rule: FileRule) -> &'static [Symbol]
             Symbol::Rows(Name::File(FileName::Content)),
         ],
         FileRule::NoMoreAliases => &[],
+        FileRule::NextAlias => &[
+            Symbol::Token(Test::HashId),
+            Symbol::Sign(Sign::Equal),
+            Symbol::Rows(Name::File(FileName::MapOrSet)),
+            Symbol::Rows(Name::File(FileName::Aliases)),
+        ],
+        FileRule::AliasOfMap => &[Symbol::Rows(Name::Map(MapName::AffineMap))],
+        FileRule::AliasOfSet => &[Symbol::Rows(Name::Map(MapName::AffineSet))],
         FileRule::NoContent => &[],
         FileRule::NamedContent => &[
             Symbol::Rows(Name::Value(ValueName::Results)),
@@ -61,6 +83,10 @@ pub(super) fn symbols(rule: FileRule) -> &'static [Symbol]
         ],
         FileRule::PlainContent => &[Symbol::Rows(Name::File(FileName::TopLevel))],
         FileRule::OnlyModule => &[Symbol::Rows(Name::Function(FunctionName::Module))],
+        FileRule::OnlyGenericModule => &[
+            Symbol::Token(Test::ModuleString),
+            Symbol::Rows(Name::Generic(GenericName::GenericParts)),
+        ],
         FileRule::FirstFunction => &[
             Symbol::Rows(Name::File(FileName::Function)),
             Symbol::Rows(Name::File(FileName::MoreFunctions)),
@@ -76,6 +102,10 @@ pub(super) fn symbols(rule: FileRule) -> &'static [Symbol]
             Symbol::Rows(Name::File(FileName::MoreFunctions)),
         ],
         FileRule::WrittenFunction => &[Symbol::Rows(Name::Function(FunctionName::NamedFunction))],
+        FileRule::GenericFunction => &[
+            Symbol::Token(Test::FuncString),
+            Symbol::Rows(Name::Generic(GenericName::GenericParts)),
+        ],
     }
 }
 
@@ -85,22 +115,35 @@ pub(super) fn choose(name: FileName, class: Class) -> Rule
 {
     match name {
         FileName::File => Rule::File(FileRule::WholeFile),
-        FileName::Aliases => Rule::File(FileRule::NoMoreAliases),
+        FileName::Aliases => match class {
+            Class::HashDigits | Class::HashWord | Class::HashOther => Rule::File(
+                FileRule::NextAlias,
+            ),
+            _ => Rule::File(FileRule::NoMoreAliases),
+        },
+        FileName::MapOrSet => match class {
+            Class::Word(Keyword::AffineSet) => Rule::File(FileRule::AliasOfSet),
+            _ => Rule::File(FileRule::AliasOfMap),
+        },
         FileName::Content => match class {
             Class::End => Rule::File(FileRule::NoContent),
             Class::ValId => Rule::File(FileRule::NamedContent),
             _ => Rule::File(FileRule::PlainContent),
         },
         FileName::TopLevel => match class {
-            Class::Word(Keyword::FuncFunc) => Rule::File(FileRule::FirstFunction),
-            _ => Rule::File(FileRule::OnlyModule),
+            Class::Word(Keyword::Module) => Rule::File(FileRule::OnlyModule),
+            Class::QuotedModule => Rule::File(FileRule::OnlyGenericModule),
+            _ => Rule::File(FileRule::FirstFunction),
         },
         FileName::MoreFunctions => match class {
+            Class::End => Rule::File(FileRule::NoMoreFunctions),
             Class::ValId => Rule::File(FileRule::NextNamedFunction),
-            Class::Word(Keyword::FuncFunc) => Rule::File(FileRule::NextFunction),
-            _ => Rule::File(FileRule::NoMoreFunctions),
+            _ => Rule::File(FileRule::NextFunction),
         },
-        FileName::Function => Rule::File(FileRule::WrittenFunction),
+        FileName::Function => match class {
+            Class::QuotedFunc => Rule::File(FileRule::GenericFunction),
+            _ => Rule::File(FileRule::WrittenFunction),
+        },
     }
 }
 
@@ -109,13 +152,16 @@ pub(super) fn need(rule: FileRule) -> u32
     ensures { result ≡ need_of (Rule.File rule) }
 {
     match rule {
+        FileRule::NextAlias | FileRule::AliasOfMap | FileRule::AliasOfSet => 2,
         FileRule::NamedContent
         | FileRule::PlainContent
         | FileRule::OnlyModule
+        | FileRule::OnlyGenericModule
         | FileRule::FirstFunction
         | FileRule::NextNamedFunction
         | FileRule::NextFunction
-        | FileRule::WrittenFunction => 1,
+        | FileRule::WrittenFunction
+        | FileRule::GenericFunction => 1,
         _ => 0,
     }
 }

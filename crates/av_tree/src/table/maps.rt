@@ -1,22 +1,28 @@
-//! The rows of maps and their expressions.
+//! The rows of maps, sets and their expressions.
 
 ghost use Rattle.std.specs.Prelude.{◌≡◌};
 ghost use Rattle.av_tree.specs.rows.MapRows.{symbols_of, choice_of};
+ghost use Rattle.av_tree.specs.Needs.{need_of};
 ghost use Rattle.av_tree.specs.Table.{name_of};
 
 use super::{Class, Keyword, Name, Rule, Symbol, Test};
 use av_lex::Sign;
 
-/// The names of maps and their expressions.
+/// The names of maps, sets and their expressions.
 #[derive(Clone, Copy)]
 pub enum MapName {
     AffineMap,
+    AffineSet,
     Parameters,
     SymbolNames,
     Words,
     MoreWords,
     Expressions,
     MoreExpressions,
+    SetRows,
+    MoreSetRows,
+    SetRow,
+    RightSide,
     Expression,
     Sum,
     Term,
@@ -26,11 +32,13 @@ pub enum MapName {
     Base,
 }
 
-/// The rows of maps and their expressions, each with its symbols.
+/// The rows of maps, sets and their expressions, each with its symbols.
 #[derive(Clone, Copy)]
 pub enum MapRule {
     /// AffineMap: `'affine_map' '<' Parameters '->' '(' Expressions ')' '>'`
     WrittenMap,
+    /// AffineSet: `'affine_set' '<' Parameters ':' '(' SetRows ')' '>'`
+    WrittenSet,
     /// Parameters: `'(' Words ')' SymbolNames`
     DimensionNames,
     /// SymbolNames: nothing
@@ -53,6 +61,20 @@ pub enum MapRule {
     NoMoreExpressions,
     /// MoreExpressions: `',' Expression MoreExpressions`
     NextExpression,
+    /// SetRows: nothing
+    NoSetRows,
+    /// SetRows: `SetRow MoreSetRows`
+    FirstSetRow,
+    /// MoreSetRows: nothing
+    NoMoreSetRows,
+    /// MoreSetRows: `',' SetRow MoreSetRows`
+    NextSetRow,
+    /// SetRow: `Expression RightSide`
+    RowOfSet,
+    /// RightSide: `'>=' Zero`
+    AtLeastZero,
+    /// RightSide: `'==' Zero`
+    EqualToZero,
     /// Expression: `Term Sum`
     WholeExpression,
     /// Sum: nothing
@@ -101,6 +123,16 @@ pub(super) fn symbols(rule: MapRule) -> &'static [Symbol]
             Symbol::Sign(Sign::CloseRound),
             Symbol::Sign(Sign::CloseAngle),
         ],
+        MapRule::WrittenSet => &[
+            Symbol::Word(Keyword::AffineSet),
+            Symbol::Sign(Sign::OpenAngle),
+            Symbol::Rows(Name::Map(MapName::Parameters)),
+            Symbol::Sign(Sign::Colon),
+            Symbol::Sign(Sign::OpenRound),
+            Symbol::Rows(Name::Map(MapName::SetRows)),
+            Symbol::Sign(Sign::CloseRound),
+            Symbol::Sign(Sign::CloseAngle),
+        ],
         MapRule::DimensionNames => &[
             Symbol::Sign(Sign::OpenRound),
             Symbol::Rows(Name::Map(MapName::Words)),
@@ -135,6 +167,23 @@ pub(super) fn symbols(rule: MapRule) -> &'static [Symbol]
             Symbol::Rows(Name::Map(MapName::Expression)),
             Symbol::Rows(Name::Map(MapName::MoreExpressions)),
         ],
+        MapRule::NoSetRows => &[],
+        MapRule::FirstSetRow => &[
+            Symbol::Rows(Name::Map(MapName::SetRow)),
+            Symbol::Rows(Name::Map(MapName::MoreSetRows)),
+        ],
+        MapRule::NoMoreSetRows => &[],
+        MapRule::NextSetRow => &[
+            Symbol::Sign(Sign::Comma),
+            Symbol::Rows(Name::Map(MapName::SetRow)),
+            Symbol::Rows(Name::Map(MapName::MoreSetRows)),
+        ],
+        MapRule::RowOfSet => &[
+            Symbol::Rows(Name::Map(MapName::Expression)),
+            Symbol::Rows(Name::Map(MapName::RightSide)),
+        ],
+        MapRule::AtLeastZero => &[Symbol::Sign(Sign::AtLeast), Symbol::Token(Test::Zero)],
+        MapRule::EqualToZero => &[Symbol::Sign(Sign::EqualEqual), Symbol::Token(Test::Zero)],
         MapRule::WholeExpression => &[
             Symbol::Rows(Name::Map(MapName::Term)),
             Symbol::Rows(Name::Map(MapName::Sum)),
@@ -190,13 +239,14 @@ pub(super) fn choose(name: MapName, class: Class) -> Rule
 {
     match name {
         MapName::AffineMap => Rule::Map(MapRule::WrittenMap),
+        MapName::AffineSet => Rule::Map(MapRule::WrittenSet),
         MapName::Parameters => Rule::Map(MapRule::DimensionNames),
         MapName::SymbolNames => match class {
             Class::Sign(Sign::OpenSquare) => Rule::Map(MapRule::WrittenSymbolNames),
             _ => Rule::Map(MapRule::NoSymbolNames),
         },
         MapName::Words => match class {
-            Class::Sign(Sign::CloseRound) | Class::Sign(Sign::CloseSquare) => Rule::Map(
+            Class::Sign(Sign::CloseRound | Sign::CloseSquare | Sign::CloseAngle) => Rule::Map(
                 MapRule::NoWords,
             ),
             _ => Rule::Map(MapRule::FirstWord),
@@ -212,6 +262,19 @@ pub(super) fn choose(name: MapName, class: Class) -> Rule
         MapName::MoreExpressions => match class {
             Class::Sign(Sign::Comma) => Rule::Map(MapRule::NextExpression),
             _ => Rule::Map(MapRule::NoMoreExpressions),
+        },
+        MapName::SetRows => match class {
+            Class::Sign(Sign::CloseRound) => Rule::Map(MapRule::NoSetRows),
+            _ => Rule::Map(MapRule::FirstSetRow),
+        },
+        MapName::MoreSetRows => match class {
+            Class::Sign(Sign::Comma) => Rule::Map(MapRule::NextSetRow),
+            _ => Rule::Map(MapRule::NoMoreSetRows),
+        },
+        MapName::SetRow => Rule::Map(MapRule::RowOfSet),
+        MapName::RightSide => match class {
+            Class::Sign(Sign::EqualEqual) => Rule::Map(MapRule::EqualToZero),
+            _ => Rule::Map(MapRule::AtLeastZero),
         },
         MapName::Expression => Rule::Map(MapRule::WholeExpression),
         MapName::Sum => match class {
@@ -239,5 +302,16 @@ pub(super) fn choose(name: MapName, class: Class) -> Rule
             Class::Sign(Sign::OpenRound) => Rule::Map(MapRule::InBrackets),
             _ => Rule::Map(MapRule::ParameterName),
         },
+    }
+}
+
+/// The least number of further brackets that are open at once in whatever a row derives.
+pub(super) fn need(rule: MapRule) -> u32
+    ensures { result ≡ need_of (Rule.Map rule) }
+{
+    match rule {
+        MapRule::WrittenMap | MapRule::WrittenSet => 2,
+        MapRule::DimensionNames | MapRule::WrittenSymbolNames | MapRule::InBrackets => 1,
+        _ => 0,
     }
 }

@@ -2,6 +2,7 @@
 
 ghost use Rattle.std.specs.Prelude.{◌≡◌};
 ghost use Rattle.av_tree.specs.rows.RegionRows.{symbols_of, choice_of};
+ghost use Rattle.av_tree.specs.Needs.{need_of};
 ghost use Rattle.av_tree.specs.Table.{name_of};
 
 use super::{Class, FunctionName, Keyword, Name, Rule, Symbol, Test, TypeName, ValueName};
@@ -102,5 +103,15 @@ pub(super) fn choose(name: RegionName, class: Class) -> Rule
         },
         RegionName::TypedValues => Rule::Region(RegionRule::ValuesAndTypes),
         RegionName::Region => Rule::Region(RegionRule::NamedRegion),
+    }
+}
+
+/// The least number of further brackets that are open at once in whatever a row derives.
+pub(super) fn need(rule: RegionRule) -> u32
+    ensures { result ≡ need_of (Rule.Region rule) }
+{
+    match rule {
+        RegionRule::NamedRegion => 1,
+        _ => 0,
     }
 }

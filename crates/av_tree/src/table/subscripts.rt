@@ -2,6 +2,7 @@
 
 ghost use Rattle.std.specs.Prelude.{◌≡◌};
 ghost use Rattle.av_tree.specs.rows.SubscriptRows.{symbols_of, choice_of};
+ghost use Rattle.av_tree.specs.Needs.{need_of};
 ghost use Rattle.av_tree.specs.Table.{name_of};
 
 use super::{Class, Keyword, Name, Rule, Symbol, Test, ValueName};
@@ -182,5 +183,15 @@ pub(super) fn choose(name: SubscriptName, class: Class) -> Rule
             Class::Sign(Sign::OpenRound) => Rule::Subscript(SubscriptRule::SubscriptInBrackets),
             _ => Rule::Subscript(SubscriptRule::DimensionValue),
         },
+    }
+}
+
+/// The least number of further brackets that are open at once in whatever a row derives.
+pub(super) fn need(rule: SubscriptRule) -> u32
+    ensures { result ≡ need_of (Rule.Subscript rule) }
+{
+    match rule {
+        SubscriptRule::SymbolValue | SubscriptRule::SubscriptInBrackets => 1,
+        _ => 0,
     }
 }

@@ -14,7 +14,10 @@ pub enum ValueName {
     ResultNumber,
     Values,
     MoreValues,
+    OptionalValue,
     Integer,
+    Integers,
+    MoreIntegers,
     Results,
     MoreResults,
     ResultCount,
@@ -37,10 +40,22 @@ pub enum ValueRule {
     NoMoreValues,
     /// MoreValues: `',' Value MoreValues`
     NextValue,
+    /// OptionalValue: nothing
+    NoFurtherValue,
+    /// OptionalValue: `',' Value`
+    FurtherValue,
     /// Integer: `Number`
     PlainInteger,
     /// Integer: `'-' Number`
     NegativeInteger,
+    /// Integers: nothing
+    NoIntegers,
+    /// Integers: `Integer MoreIntegers`
+    FirstInteger,
+    /// MoreIntegers: nothing
+    NoMoreIntegers,
+    /// MoreIntegers: `',' Integer MoreIntegers`
+    NextInteger,
     /// Results: `ValId ResultCount MoreResults '='`
     ResultNames,
     /// MoreResults: nothing
@@ -74,8 +89,24 @@ pub(super) fn symbols(rule: ValueRule) -> &'static [Symbol]
             Symbol::Rows(Name::Value(ValueName::Value)),
             Symbol::Rows(Name::Value(ValueName::MoreValues)),
         ],
+        ValueRule::NoFurtherValue => &[],
+        ValueRule::FurtherValue => &[
+            Symbol::Sign(Sign::Comma),
+            Symbol::Rows(Name::Value(ValueName::Value)),
+        ],
         ValueRule::PlainInteger => &[Symbol::Token(Test::Number)],
         ValueRule::NegativeInteger => &[Symbol::Sign(Sign::Minus), Symbol::Token(Test::Number)],
+        ValueRule::NoIntegers => &[],
+        ValueRule::FirstInteger => &[
+            Symbol::Rows(Name::Value(ValueName::Integer)),
+            Symbol::Rows(Name::Value(ValueName::MoreIntegers)),
+        ],
+        ValueRule::NoMoreIntegers => &[],
+        ValueRule::NextInteger => &[
+            Symbol::Sign(Sign::Comma),
+            Symbol::Rows(Name::Value(ValueName::Integer)),
+            Symbol::Rows(Name::Value(ValueName::MoreIntegers)),
+        ],
         ValueRule::ResultNames => &[
             Symbol::Token(Test::ValId),
             Symbol::Rows(Name::Value(ValueName::ResultCount)),
@@ -112,9 +143,21 @@ pub(super) fn choose(name: ValueName, class: Class) -> Rule
             Class::Sign(Sign::Comma) => Rule::Value(ValueRule::NextValue),
             _ => Rule::Value(ValueRule::NoMoreValues),
         },
+        ValueName::OptionalValue => match class {
+            Class::Sign(Sign::Comma) => Rule::Value(ValueRule::FurtherValue),
+            _ => Rule::Value(ValueRule::NoFurtherValue),
+        },
         ValueName::Integer => match class {
             Class::Sign(Sign::Minus) => Rule::Value(ValueRule::NegativeInteger),
             _ => Rule::Value(ValueRule::PlainInteger),
+        },
+        ValueName::Integers => match class {
+            Class::Sign(Sign::CloseSquare) => Rule::Value(ValueRule::NoIntegers),
+            _ => Rule::Value(ValueRule::FirstInteger),
+        },
+        ValueName::MoreIntegers => match class {
+            Class::Sign(Sign::Comma) => Rule::Value(ValueRule::NextInteger),
+            _ => Rule::Value(ValueRule::NoMoreIntegers),
         },
         ValueName::Results => Rule::Value(ValueRule::ResultNames),
         ValueName::MoreResults => match class {

@@ -9,8 +9,8 @@ unfolding store_line
 returns c =
     let w = plain (codes "affine.store") ++ space in
     let s = stored_value c.as_slice.result.now in
-    let a = access (head_of c.args.node.now) c.texts_behind.result.now in
-    let e = then _ _ _ (w ++ s ++ a) (first_type c.types_behind.result.now)
+    let a = access (head_of c.args.node.now) c.behind.result.now in
+    let e = then _ _ _ (w ++ s ++ a) (first_type c.behind-2.result.now)
     (then _ _ _ (w ++ s) a
     (then _ _ _ w s (from_text _ _ w (codes "affine.store ") (spelt-worded (codes "affine.store")) c.in_ok-push_bytes.ensures) c.in_ok-print_stored.ensures)
     c.in_ok-print_access.ensures)

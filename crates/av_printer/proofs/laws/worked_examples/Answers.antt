@@ -1,4 +1,4 @@
-use Rattle.std.proofs.Common.{◌≡◌, ℕ, List, ◌++◌, codes, refl, ap, ◌∙◌}
+use Rattle.std.proofs.Common.{◌≡◌, ℕ, List, ◌++◌, refl, ap, ◌∙◌}
 use Rattle.std.specs.Fmt.{digits}
 use Rattle.av_lex.specs.declared.token.Sign.TheVariants.{Plus, Minus, Star}
 use Rattle.av_tree.specs.declared.written.ExprText.{ExprText, Name, Neg, Add, Sub, Mul}

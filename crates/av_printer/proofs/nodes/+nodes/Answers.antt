@@ -2,15 +2,16 @@ use Rattle.std.proofs.Common.{◌≡◌, ◌++◌, ℕ, List, map, Some, ap, ◌
 use Rattle.av_tree.specs.declared.node.Node.{out-Node}
 use Rattle.av_tree.specs.declared.node.Body.{Body}
 use Rattle.av_printer.specs.Pieces.{Piece, spelt, joined}
-use Rattle.av_printer.specs.Operations.{head_of, own_line, own_end, results_before}
-use Rattle.av_printer.specs.Spelling.{form_of, node_line, own_body, common_body}
+use Rattle.av_printer.specs.Operations.{head_of, results_before}
+use Rattle.av_printer.specs.OwnForms.{own_line, own_end}
+use Rattle.av_printer.specs.Spelling.{form_of, node_line, own_body, else_body, own_bodies, common_body}
 use Rattle.av_printer.proofs.Steps.{commas-turn, joined-turn, then}
-use Rattle.av_printer.proofs.NodeSteps.{whole-own}
+use Rattle.av_printer.proofs.NodeSteps.{whole-own, bodies-some}
 use Rattle.av_printer.proofs.nodes.+nodes.Goals as goal
 
-pub print_own_regions-loop-region-preserved : goal.print_own_regions-loop-region-preserved
-print_own_regions-loop-region-preserved t c =
-    joined-turn (own_body c.args.depth) c.args.regions.now c.loop-region.region-index _ _ c.args.out.now c.loop-region.out c.print_own_region.new.out c.loop-region-test.true c.region-item.is c.loop-region.invariant c.in_ok-print_own_region.ensures
+pub print_else_regions-loop-region-preserved : goal.print_else_regions-loop-region-preserved
+print_else_regions-loop-region-preserved t c =
+    joined-turn (else_body c.args.depth) c.args.regions.now c.loop-region.region-index _ _ c.args.out.now c.loop-region.out c.print_else_region.new.out c.loop-region-test.true c.region-item.is c.loop-region.invariant c.in_ok-print_else_region.ensures
 
 pub print_common_regions-loop-i-preserved : goal.print_common_regions-loop-i-preserved
 print_common_regions-loop-i-preserved t c =
@@ -27,7 +28,7 @@ print_node-returns-in_ok-close_named-in-Some t c =
     let d = c.args.depth in
     let r = results_before c.as_slice.result.now in
     let l = own_line c.in-Some.named h in
-    let b = joined (map (own_body d) c.as_slice-in-Some.result.now) in
+    let b = joined (own_bodies d c.as_slice-in-Some.result.now) in
     let e = own_end c.in-Some.named h in
     let q : form_of c.args.form (out-Node n).name ≡ Some c.in-Some.named =
     ap (form_of c.args.form) (sym c.as_slice-2.ensures) ∙ sym c.form_for.ensures ∙ c.in-Some.is in
@@ -35,5 +36,14 @@ print_node-returns-in_ok-close_named-in-Some t c =
     (then _ _ _ (l ++ b) e (then _ _ _ l b c.in_ok-open_named-in-Some.ensures c.in_ok-print_own_regions-in-Some.ensures) c.in_ok-close_named-in-Some.ensures)
     ∙ ap (λ (p : List Piece). c.args.out.now ++ spelt p)
     (ap (λ (rs : List (List ℕ)). results_before rs ++ (l ++ b ++ e)) c.as_slice.ensures
-    ∙ ap (λ (bs : List Body). results_before (out-Node n).results ++ (l ++ joined (map (own_body d) bs) ++ e)) c.as_slice-in-Some.ensures
+    ∙ ap (λ (bs : List Body). results_before (out-Node n).results ++ (l ++ joined (own_bodies d bs) ++ e)) c.as_slice-in-Some.ensures
     ∙ sym (whole-own n c.args.form d c.in-Some.named q))
+
+pub print_own_regions-returns-in_ok-print_else_regions-in-len1-up : goal.print_own_regions-returns-in_ok-print_else_regions-in-len1-up
+print_own_regions-returns-in_ok-print_else_regions-in-len1-up t c =
+    let bs = c.args.regions.now in
+    let b = c.first-item.result in
+    let d = c.args.depth in
+    then _ _ _ (own_body d b) (joined (map (else_body d) c.behind.result.now)) c.in_ok-print_own_region-in-len1-up.ensures c.in_ok-print_else_regions-in-len1-up.ensures
+    ∙ ap (λ (p : List Piece). c.args.out.now ++ spelt p)
+    (ap (λ (o : List Body). own_body d b ++ joined (map (else_body d) o)) c.behind.ensures ∙ sym (bodies-some d bs b c.in-len1-up.len_at_least c.first-item.is))

@@ -1,0 +1,12 @@
+use Rattle.std.proofs.Common.{refl}
+use Rattle.av_values.proofs.Replacing.{replaced-end, replaced-top, replaced-none, at_fault}
+use Rattle.av_blocks.proofs.files.builtin_module.Goals as goal
+
+pub returns-clause-ok : goal.returns-clause-ok
+returns-clause-ok c = replaced-top _ _ _ _ _ _ _ _ c.in_ok-properties.ensures.ok (replaced-top _ _ _ _ _ _ _ _ c.in_ok-attrs.ensures.ok (replaced-top _ _ _ _ _ _ _ _ c.in_ok-nodes.ensures.ok (replaced-end _ _ _ _ _ refl (rw (c.in_ok-push_node.ensures.ok, c.in_ok-node.ensures.ok, c.in_order-properties.ensures, c.in_order-attrs.ensures)))))
+
+pub returns-in_err-attrs-clause-misshapen : goal.returns-in_err-attrs-clause-misshapen
+returns-in_err-attrs-clause-misshapen c = at_fault _ c.from_residual-in_err-attrs.result _ (replaced-top _ _ _ _ _ _ _ _ c.in_ok-properties.ensures.ok (replaced-none _ _ _ _ _ c.in_err-attrs.ensures.err))
+
+pub returns-in_err-nodes-clause-misshapen : goal.returns-in_err-nodes-clause-misshapen
+returns-in_err-nodes-clause-misshapen c = at_fault _ c.from_residual-in_err-nodes.result _ (replaced-top _ _ _ _ _ _ _ _ c.in_ok-properties.ensures.ok (replaced-top _ _ _ _ _ _ _ _ c.in_ok-attrs.ensures.ok (replaced-none _ _ _ _ _ c.in_err-nodes.ensures.err)))

@@ -1,0 +1,4 @@
+pub mod FileRows
+pub mod FunctionRows
+pub mod GenericRows
+pub mod RegionRows

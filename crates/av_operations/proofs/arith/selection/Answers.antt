@@ -1,0 +1,15 @@
+use Rattle.std.proofs.Common.{refl}
+use Rattle.av_values.proofs.Replacing.{replaced-end, replaced-top, replaced-none, at_fault}
+use Rattle.av_operations.proofs.arith.selection.Goals as goal
+
+pub returns-clause-ok : goal.returns-clause-ok
+returns-clause-ok c = replaced-top _ _ _ _ _ _ _ _ c.in_ok-condition.ensures.ok (replaced-top _ _ _ _ _ _ _ _ c.in_ok-left.ensures.ok (replaced-top _ _ _ _ _ _ _ _ c.in_ok-right.ensures.ok (replaced-top _ _ _ _ _ _ _ _ c.in_ok-types.ensures.ok (replaced-end _ _ _ _ _ refl (rw (c.in_ok-push_node.ensures.ok, c.in_ok-node.ensures.ok))))))
+
+pub returns-in_err-left-clause-misshapen : goal.returns-in_err-left-clause-misshapen
+returns-in_err-left-clause-misshapen c = at_fault _ c.from_residual-in_err-left.result _ (replaced-top _ _ _ _ _ _ _ _ c.in_ok-condition.ensures.ok (replaced-none _ _ _ _ _ c.in_err-left.ensures.err))
+
+pub returns-in_err-right-clause-misshapen : goal.returns-in_err-right-clause-misshapen
+returns-in_err-right-clause-misshapen c = at_fault _ c.from_residual-in_err-right.result _ (replaced-top _ _ _ _ _ _ _ _ c.in_ok-condition.ensures.ok (replaced-top _ _ _ _ _ _ _ _ c.in_ok-left.ensures.ok (replaced-none _ _ _ _ _ c.in_err-right.ensures.err)))
+
+pub returns-in_err-types-clause-misshapen : goal.returns-in_err-types-clause-misshapen
+returns-in_err-types-clause-misshapen c = at_fault _ c.from_residual-in_err-types.result _ (replaced-top _ _ _ _ _ _ _ _ c.in_ok-condition.ensures.ok (replaced-top _ _ _ _ _ _ _ _ c.in_ok-left.ensures.ok (replaced-top _ _ _ _ _ _ _ _ c.in_ok-right.ensures.ok (replaced-none _ _ _ _ _ c.in_err-types.ensures.err))))

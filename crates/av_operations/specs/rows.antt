@@ -1,0 +1,5 @@
+pub mod AffineRows
+pub mod ArithRows
+pub mod MemRefRows
+pub mod ScfRows
+pub mod VectorRows

@@ -1,0 +1,6 @@
+use Rattle.std.proofs.Common.{refl}
+use Rattle.av_values.proofs.Replacing.{replaced-end, replaced-top}
+use Rattle.av_parts.proofs.attributes.bool_attribute.Goals as goal
+
+pub returns-clause-ok : goal.returns-clause-ok
+returns-clause-ok c = replaced-top _ _ _ _ _ _ _ _ c.in_ok-word.ensures.ok (replaced-end _ _ _ _ _ refl (rw (c.in_ok-push_attr.ensures.ok, c.is_true-value.ensures)))

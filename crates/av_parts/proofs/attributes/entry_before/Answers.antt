@@ -1,0 +1,9 @@
+use Rattle.std.proofs.Common.{refl}
+use Rattle.av_values.proofs.Replacing.{replaced-end, replaced-top, replaced-none, at_fault}
+use Rattle.av_parts.proofs.attributes.entry_before.Goals as goal
+
+pub returns-clause-ok : goal.returns-clause-ok
+returns-clause-ok c = replaced-top _ _ _ _ _ _ _ _ c.in_ok-entry.ensures.ok (replaced-top _ _ _ _ _ _ _ _ c.in_ok-others.ensures.ok (replaced-end _ _ _ _ _ refl (rw (c.in_ok-push_entries.ensures.ok, c.in_ok-entries.ensures.ok))))
+
+pub returns-in_err-others-clause-misshapen : goal.returns-in_err-others-clause-misshapen
+returns-in_err-others-clause-misshapen c = at_fault _ c.from_residual-in_err-others.result _ (replaced-top _ _ _ _ _ _ _ _ c.in_ok-entry.ensures.ok (replaced-none _ _ _ _ _ c.in_err-others.ensures.err))

@@ -1,0 +1,12 @@
+use Rattle.std.proofs.Common.{refl}
+use Rattle.av_values.proofs.Replacing.{replaced-end, replaced-top, replaced-none, at_fault}
+use Rattle.av_parts.proofs.expressions.division_before.Goals as goal
+
+pub returns-clause-ok : goal.returns-clause-ok
+returns-clause-ok c = replaced-top _ _ _ _ _ _ _ _ c.in_ok-word.ensures.ok (replaced-top _ _ _ _ _ _ _ _ c.in_ok-right.ensures.ok (replaced-top _ _ _ _ _ _ _ _ c.in_ok-others.ensures.ok (replaced-end _ _ _ _ _ refl (rw (c.in_ok-push_parts.ensures.ok, c.in_ok-parts.ensures.ok, c.division-operator.ensures)))))
+
+pub returns-in_err-right-clause-misshapen : goal.returns-in_err-right-clause-misshapen
+returns-in_err-right-clause-misshapen c = at_fault _ c.from_residual-in_err-right.result _ (replaced-top _ _ _ _ _ _ _ _ c.in_ok-word.ensures.ok (replaced-none _ _ _ _ _ c.in_err-right.ensures.err))
+
+pub returns-in_err-others-clause-misshapen : goal.returns-in_err-others-clause-misshapen
+returns-in_err-others-clause-misshapen c = at_fault _ c.from_residual-in_err-others.result _ (replaced-top _ _ _ _ _ _ _ _ c.in_ok-word.ensures.ok (replaced-top _ _ _ _ _ _ _ _ c.in_ok-right.ensures.ok (replaced-none _ _ _ _ _ c.in_err-others.ensures.err)))

@@ -1,0 +1,5 @@
+pub mod AttributeRows
+pub mod MapRows
+pub mod SubscriptRows
+pub mod TypeRows
+pub mod ValueRows

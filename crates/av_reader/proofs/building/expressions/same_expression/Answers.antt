@@ -1,6 +1,0 @@
-use Rattle.std.proofs.Common.{refl}
-use Rattle.av_reader.proofs.Replacing.{replaced-end, replaced-top}
-use Rattle.av_reader.proofs.building.expressions.same_expression.Goals as goal
-
-pub returns-clause-ok : goal.returns-clause-ok
-returns-clause-ok c = replaced-top _ _ _ _ _ _ _ _ c.in_ok-expression.ensures.ok (replaced-end _ _ _ _ _ refl c.in_ok-push_expression.ensures.ok)

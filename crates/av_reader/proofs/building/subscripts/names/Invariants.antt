@@ -1,6 +1,0 @@
-use Rattle.std.proofs.Common.{◌≡◌}
-use Rattle.av_reader.specs.Accesses.{first_names}
-use Rattle.av_reader.proofs.building.subscripts.names.Given as goal
-
-abbrev pub invariant-loop-number : goal.invariant-loop-number
-invariant-loop-number l = l.names ≡ first_names l.letter l.number

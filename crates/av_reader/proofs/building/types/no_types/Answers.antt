@@ -1,6 +1,0 @@
-use Rattle.std.proofs.Common.{refl}
-use Rattle.av_reader.proofs.Replacing.{replaced-end}
-use Rattle.av_reader.proofs.building.types.no_types.Goals as goal
-
-pub returns-clause-ok : goal.returns-clause-ok
-returns-clause-ok c = replaced-end _ _ _ _ _ refl (rw (c.in_ok-push_types.ensures.ok, c.new.ensures))

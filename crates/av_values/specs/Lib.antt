@@ -1,0 +1,11 @@
+pub mod Sorts
+pub mod Puts
+pub mod Numbers
+pub mod Expressions
+pub mod Nodes
+pub mod Loops
+pub mod Accesses
+pub mod Meanings
+pub mod Operations
+pub mod Spellings
+pub mod Forms

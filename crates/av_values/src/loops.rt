@@ -1,0 +1,155 @@
+//! The parts of loops.
+
+ghost use Rattle.std.specs.Prelude.{◌≡◌, ◌++◌, length, map, reverse, Some, None, IfErr, IfOk, OnOk};
+ghost use Rattle.av_values.specs.Loops.{carried_lists, counter, ended, ends_region, has_end, segments, step, with_bound, with_carried, with_pair};
+
+use crate::nodes::{plain_node, push_operands, push_property, written_types};
+use crate::stack::{Fault, in_order, text_of};
+use crate::value::{Carried, CarriedPair, MapUse};
+use av_affine::{Duplicate, Seq, Text};
+use av_tree::{Attr, BodyArg, Named, Node, TypeText};
+use std::alloc::Global;
+
+/// The argument of a loop's region that counts.
+pub fn loop_variable(alloc: Global, name: Text) -> Result<BodyArg, Fault>
+    ensures ok { IfOk result (λ arg. arg ≡ counter name) }
+    ensures err { IfErr result (λ fault. fault ≡ Fault.NoMemory) }
+{
+    let ty = TypeText::Scalar(text_of(alloc, b"index")?);
+    Ok(BodyArg { name, ty })
+}
+
+/// The step of a loop.
+pub fn step_of(alloc: Global, value: i128) -> Result<Attr, Fault>
+    ensures ok { IfOk result (λ attr. attr ≡ step value) }
+    ensures err { IfErr result (λ fault. fault ≡ Fault.NoMemory) }
+{
+    let ty = TypeText::Scalar(text_of(alloc, b"index")?);
+    Ok(Attr::Number { value, ty })
+}
+
+/// How many operands the bounds have, and how many values are carried.
+pub fn segment_sizes(
+    alloc: Global,
+    lower: usize,
+    upper: usize,
+    carried: usize,
+) -> Result<Attr, Fault>
+    ensures ok { IfOk result (λ attr. attr ≡ segments lower upper carried) }
+    ensures err { IfErr result (λ fault. fault ≡ Fault.NoMemory) }
+{
+    let mut numbers = Seq::new(alloc);
+    numbers.push(lower as i128)?;
+    numbers.push(upper as i128)?;
+    numbers.push(carried as i128)?;
+    let elem = TypeText::Scalar(text_of(alloc, b"i32")?);
+    Ok(Attr::Array { elem, numbers })
+}
+
+/// Gives a node the map and the operands of a bound, whose number it returns.
+pub fn bound(alloc: Global, node: &mut Node, name: &[u8], map_use: MapUse) -> Result<usize, Fault>
+    ensures ok { OnOk result (node.new ≡ with_bound node.old name.now map_use) }
+    ensures number { IfOk result (λ number. number ≡ length map_use.operands) }
+    ensures err { IfErr result (λ fault. fault ≡ Fault.NoMemory) }
+{
+    let MapUse { map, operands } = map_use;
+    let number = operands.len();
+    push_operands(node, operands)?;
+    push_property(alloc, node, name, map)?;
+    Ok(number)
+}
+
+/// The first values of carried arguments, and the arguments.
+#[derive(Drop)]
+pub struct CarriedLists {
+    pub inits: Seq<Text>,
+    pub args: Seq<BodyArg>,
+}
+
+/// Gives a node carried values, and their arguments to a region; it returns the number of them.
+pub fn carry(
+    alloc: Global,
+    node: &mut Node,
+    args: &mut Seq<BodyArg>,
+    carried: Carried,
+) -> Result<usize, Fault>
+    ensures node { OnOk result (node.new ≡ with_carried node.old (carried_lists (reverse carried.pairs) carried.types).inits carried.types) }
+    ensures args { OnOk result (args.new ≡ args.old ++ (carried_lists (reverse carried.pairs) carried.types).args) }
+    ensures number { IfOk result (λ number. number ≡ length carried.types) }
+    ensures err { IfErr result (λ fault. fault ≡ Fault.NoMemory) }
+{
+    let Carried { pairs, types } = carried;
+    let number = types.len();
+    let in_types = written_types(alloc, types.as_slice())?;
+    let out_types = written_types(alloc, types.as_slice())?;
+    let lists = paired(alloc, pairs, types)?;
+    node.operands.append(lists.inits)?;
+    node.in_types.append(in_types)?;
+    node.out_types.append(out_types)?;
+    args.append(lists.args)?;
+    Ok(number)
+}
+
+// An argument of each of the types, as far as there are pairs, which stand from the last to the first.
+fn paired(
+    alloc: Global,
+    mut pairs: Seq<CarriedPair>,
+    types: Seq<TypeText>,
+) -> Result<CarriedLists, Fault>
+    ensures ok { IfOk result (λ lists. lists ≡ carried_lists (reverse pairs) types) }
+    ensures err { IfErr result (λ fault. fault ≡ Fault.NoMemory) }
+{
+    let mut types = in_order(types);
+    let mut lists = CarriedLists {
+        inits: Seq::new(alloc),
+        args: Seq::new(alloc),
+    };
+    while let Some(ty) = types.pop() {
+        let Some(pair) = pairs.pop() else {
+            return Ok(lists);
+        };
+        push_pair(&mut lists, pair, ty)?;
+    }
+    Ok(lists)
+}
+
+fn push_pair(lists: &mut CarriedLists, pair: CarriedPair, ty: TypeText) -> Result<(), Fault>
+    ensures ok { OnOk result (lists.new ≡ with_pair lists.old pair ty) }
+    ensures err { IfErr result (λ fault. fault ≡ Fault.NoMemory) }
+{
+    let CarriedPair { name, init } = pair;
+    lists.inits.push(init)?;
+    lists.args.push(BodyArg { name, ty })?;
+    Ok(())
+}
+
+/// The operations of a region, with a terminator of this name where it is left out.
+pub fn with_terminator(alloc: Global, name: &[u8], mut nodes: Seq<Node>) -> Result<Seq<Node>, Fault>
+    ensures ok { IfOk result (λ made. made ≡ ended name.now nodes) }
+    ensures err { IfErr result (λ fault. fault ≡ Fault.NoMemory) }
+{
+    if is_ended(nodes.as_slice()) {
+        return Ok(nodes);
+    }
+    let name = text_of(alloc, name)?;
+    nodes.push(plain_node(alloc, name, 0))?;
+    Ok(nodes)
+}
+
+fn is_ended(nodes: &[Node]) -> bool
+    ensures { result ≡ has_end nodes.now }
+{
+    match nodes.last() {
+        Some(last) => is_terminator(last.name.as_slice()),
+        None => false,
+    }
+}
+
+fn is_terminator(name: &[u8]) -> bool
+    ensures { result ≡ ends_region name.now }
+{
+    name == b"func.return".as_slice()
+        || name == b"affine.yield".as_slice()
+        || name == b"scf.yield".as_slice()
+        || name == b"vector.yield".as_slice()
+}
