@@ -296,7 +296,12 @@ fn loop_of(alloc: Global, written: Written, place: u32) -> Result<Node, Fault>
 
 /// A node with these attributes and one region.
 #[tactic(auto, unfolding(av_values::specs::Operations::with_region))]
-pub(super) fn with_region(alloc: Global, mut node: Node, attrs: Seq<Named>, body: Body) -> Result<Node, Fault>
+pub(super) fn with_region(
+    alloc: Global,
+    mut node: Node,
+    attrs: Seq<Named>,
+    body: Body,
+) -> Result<Node, Fault>
     ensures ok { IfOk result (λ made. made ≡ the_region node attrs body) }
     ensures err { IfErr result (λ fault. fault ≡ Fault.NoMemory) }
 {

@@ -60,12 +60,7 @@ fn load_node(alloc: Global, written: WrittenPlace, place: u32) -> Result<Node, F
     Ok(node)
 }
 
-fn store_node(
-    alloc: Global,
-    value: Text,
-    written: WrittenPlace,
-    place: u32,
-) -> Result<Node, Fault>
+fn store_node(alloc: Global, value: Text, written: WrittenPlace, place: u32) -> Result<Node, Fault>
     ensures ok { IfOk result (λ node. node ≡ element_store_of value written.buffer written.indices written.attrs written.ty place) }
     ensures err { IfErr result (λ fault. fault ≡ Fault.NoMemory) }
 {

@@ -170,12 +170,7 @@ fn reduction_node(alloc: Global, written: WrittenReduction, place: u32) -> Resul
 }
 
 // A node with a property of numbers of places or lanes, which stand from the last to the first.
-fn positioned(
-    alloc: Global,
-    mut node: Node,
-    name: &[u8],
-    numbers: Seq<i128>,
-) -> Result<Node, Fault>
+fn positioned(alloc: Global, mut node: Node, name: &[u8], numbers: Seq<i128>) -> Result<Node, Fault>
     ensures ok { IfOk result (λ made. made ≡ with_property node name.now (the_positions (reverse numbers))) }
     ensures err { IfErr result (λ fault. fault ≡ Fault.NoMemory) }
 {
