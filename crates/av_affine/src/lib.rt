@@ -20,8 +20,6 @@ mod sameness;
 mod seq;
 mod spelling;
 mod sums;
-#[cfg(test)]
-mod tests;
 mod values;
 
 pub use duplicate::{Duplicate, duplicate_all};

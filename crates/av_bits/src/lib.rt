@@ -21,5 +21,3 @@ pub use operations::binary;
 pub use pattern::{signed, wrap};
 pub use types::{BinOp, CastOp, DivideTrap, Kind9, Pred, Width};
 
-#[cfg(test)]
-mod tests;

@@ -12,5 +12,3 @@ pub use classes::{class_of, classes_of, spelling_of};
 pub use derivation::{Refused, derive};
 pub use machine::{Event, Limits, Stop};
 
-#[cfg(test)]
-mod tests;

@@ -28,5 +28,3 @@ pub use std_sink::StdSink;
 pub use std_source::StdSource;
 pub use whole::{read_full, write_all};
 
-#[cfg(test)]
-mod tests;

@@ -12,8 +12,6 @@ mod marking;
 mod module;
 mod places;
 mod run;
-#[cfg(test)]
-mod tests;
 mod ty;
 pub mod types;
 

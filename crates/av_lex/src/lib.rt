@@ -12,5 +12,3 @@ mod token;
 pub use lexer::lex;
 pub use token::{Kind, LexFault, Sign, Token};
 
-#[cfg(test)]
-mod tests;

@@ -33,5 +33,3 @@ pub use nodes::spell;
 pub use pattern::{Item, Lead, Pattern};
 pub use printing::{PrintFault, print};
 
-#[cfg(test)]
-mod tests;

@@ -8,5 +8,3 @@ mod reading;
 
 pub use reading::{LIMITS, ReadRefusal, read};
 
-#[cfg(test)]
-mod tests;

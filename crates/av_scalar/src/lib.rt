@@ -10,8 +10,6 @@ mod operations;
 mod running;
 mod scalar;
 mod testing;
-#[cfg(test)]
-mod tests;
 mod words;
 
 pub use scalar::run_scalar;

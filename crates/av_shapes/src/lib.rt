@@ -9,8 +9,6 @@ ghost use Rattle.av_shapes.specs.Places.{IsScale, IsWithin, extents, lanes, plac
 ghost use Rattle.av_shapes.specs.Order.{CanPermute, permuted_sizes};
 
 mod laws;
-#[cfg(test)]
-mod tests;
 
 pub use laws::places_are_lanes;
 use smallvec::SmallVec;

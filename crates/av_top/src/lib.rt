@@ -16,5 +16,3 @@ pub use command::affvec;
 pub use request::Request;
 pub use status::{Status, TextFault};
 
-#[cfg(test)]
-mod tests;

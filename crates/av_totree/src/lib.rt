@@ -12,5 +12,3 @@ mod types;
 
 pub use functions::to_tree;
 
-#[cfg(test)]
-mod tests;

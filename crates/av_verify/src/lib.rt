@@ -19,8 +19,6 @@ mod refusal;
 mod results;
 mod rows;
 mod scope;
-#[cfg(test)]
-mod tests;
 mod types;
 
 pub use form::is_first_path;
