@@ -20,4 +20,3 @@ pub use kinds::{combine, neutral, op_of_kind};
 pub use operations::binary;
 pub use pattern::{signed, wrap};
 pub use types::{BinOp, CastOp, DivideTrap, Kind9, Pred, Width};
-

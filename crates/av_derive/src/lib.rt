@@ -11,4 +11,3 @@ mod machine;
 pub use classes::{class_of, classes_of, spelling_of};
 pub use derivation::{Refused, derive};
 pub use machine::{Event, Limits, Stop};
-

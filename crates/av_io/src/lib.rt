@@ -27,4 +27,3 @@ pub use plain_source::PlainSource;
 pub use std_sink::StdSink;
 pub use std_source::StdSource;
 pub use whole::{read_full, write_all};
-

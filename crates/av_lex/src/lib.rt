@@ -11,4 +11,3 @@ mod token;
 
 pub use lexer::lex;
 pub use token::{Kind, LexFault, Sign, Token};
-

@@ -32,4 +32,3 @@ pub use named::NamedForm;
 pub use nodes::spell;
 pub use pattern::{Item, Lead, Pattern};
 pub use printing::{PrintFault, print};
-

@@ -7,4 +7,3 @@ mod building;
 mod reading;
 
 pub use reading::{LIMITS, ReadRefusal, read};
-

@@ -15,4 +15,3 @@ mod status;
 pub use command::affvec;
 pub use request::Request;
 pub use status::{Status, TextFault};
-

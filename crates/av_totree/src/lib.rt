@@ -11,4 +11,3 @@ mod texts;
 mod types;
 
 pub use functions::to_tree;
-
