@@ -1,4 +1,3 @@
 pub mod Made
-pub mod Normal
 pub mod Spelt
 pub mod Steps
