@@ -1,11 +1,10 @@
 //! A case, and what programs ask of it.
 
 use crate::fault::{CaseFault, Why};
-use crate::replace::all_replaced;
-use std::alloc::{AllocError, Global};
+use std::alloc::Global;
 
 /// A field of a case, and the line that begins it.
-#[derive(Debug, Drop)]
+#[derive(Drop)]
 pub(crate) struct Field {
     pub(crate) key: String,
     pub(crate) line: usize,
@@ -13,7 +12,7 @@ pub(crate) struct Field {
 }
 
 /// A case: its name, the line that it begins on, and its fields.
-#[derive(Debug, Drop)]
+#[derive(Drop)]
 pub struct Case {
     /// The name.
     pub name: String,
@@ -25,10 +24,12 @@ pub struct Case {
 impl Case {
     /// The value of a field, if the case has it.
     pub fn field(&self, key: &str) -> Option<&[u8]> {
-        match self.found(key) {
-            Some(field) => Some(field.value.as_slice()),
-            None => None,
+        for field in self.fields.iter() {
+            if field.key.as_str() == key {
+                return Some(field.value.as_slice());
+            }
         }
+        None
     }
 
     /// The value of a field; nothing where the case doesn't have it.
@@ -38,108 +39,78 @@ impl Case {
 
     /// The words of a field, parted by white space.
     pub fn words(&self, alloc: Global, key: &str) -> Result<Vec<String>, CaseFault> {
-        let mut words = Vec::new(alloc);
-        let Some(field) = self.found(key) else {
-            return Ok(words);
-        };
-        let Ok(text) = str::from_utf8(field.value.as_slice()) else {
-            return Err(field.fault(Why::BadValue));
-        };
-        for word in text.split_whitespace() {
-            if pushed(alloc, &mut words, word).is_err() {
-                return Err(field.fault(Why::NoMemory));
-            }
+        match words_in(alloc, self.bytes(key)) {
+            Ok(words) => Ok(words),
+            Err(why) => Err(self.fault(key, why)),
         }
-        Ok(words)
     }
 
     /// The numbers of a field, parted by white space.
     pub fn numbers(&self, alloc: Global, key: &str) -> Result<Vec<u64>, CaseFault> {
-        let mut numbers = Vec::new(alloc);
-        let Some(field) = self.found(key) else {
-            return Ok(numbers);
-        };
-        let Ok(text) = str::from_utf8(field.value.as_slice()) else {
-            return Err(field.fault(Why::BadValue));
-        };
-        for word in text.split_whitespace() {
-            let Ok(number) = word.parse::<u64>() else {
-                return Err(field.fault(Why::BadValue));
-            };
-            if numbers.push(number).is_err() {
-                return Err(field.fault(Why::NoMemory));
-            }
+        match numbers_in(alloc, self.bytes(key)) {
+            Ok(numbers) => Ok(numbers),
+            Err(why) => Err(self.fault(key, why)),
         }
-        Ok(numbers)
     }
 
     /// The number of a field, or another where the case doesn't have it.
     pub fn number(&self, key: &str, otherwise: u64) -> Result<u64, CaseFault> {
-        let Some(field) = self.found(key) else {
-            return Ok(otherwise);
-        };
-        let Ok(text) = str::from_utf8(field.value.as_slice()) else {
-            return Err(field.fault(Why::BadValue));
-        };
-        match text.parse::<u64>() {
-            Ok(number) => Ok(number),
-            Err(_) => Err(field.fault(Why::BadValue)),
+        match self.field(key) {
+            None => Ok(otherwise),
+            Some(value) => match number_in(value) {
+                Ok(number) => Ok(number),
+                Err(why) => Err(self.fault(key, why)),
+            },
         }
     }
 
     /// Whether a field is `yes`. A case without it says no.
     pub fn is_yes(&self, key: &str) -> Result<bool, CaseFault> {
-        match self.found(key) {
-            None => Ok(false),
-            Some(field) => match field.value.as_slice() {
-                b"yes" => Ok(true),
-                b"no" => Ok(false),
-                _ => Err(field.fault(Why::BadValue)),
-            },
+        match self.bytes(key) {
+            b"yes" => Ok(true),
+            b"" | b"no" => Ok(false),
+            _ => Err(self.fault(key, Why::BadValue)),
         }
     }
 
     /// A fault of a field, for a program that asks more of its value.
     pub fn fault(&self, key: &str, why: Why) -> CaseFault {
-        match self.found(key) {
-            Some(field) => field.fault(why),
-            None => CaseFault {
-                line: self.line,
-                why,
-            },
+        let mut line = self.line;
+        for field in self.fields.iter() {
+            if field.key.as_str() == key {
+                line = field.line;
+            }
         }
-    }
-
-    fn found(&self, key: &str) -> Option<&Field> {
-        self.fields.iter().find(|field| field.key.as_str() == key)
+        CaseFault { line, why }
     }
 }
 
-impl Field {
-    fn fault(&self, why: Why) -> CaseFault {
-        CaseFault {
-            line: self.line,
-            why,
-        }
+fn words_in(alloc: Global, value: &[u8]) -> Result<Vec<String>, Why> {
+    let mut words = Vec::new(alloc);
+    for word in text_of(value)?.split_whitespace() {
+        words.push(String::from_str(alloc, word)?)?;
     }
+    Ok(words)
+}
 
-    /// The field with `<in>` and `<out>` replaced in its value.
-    pub(crate) fn filled(
-        &self,
-        alloc: Global,
-        given: &[u8],
-        wanted: &[u8],
-    ) -> Result<Field, AllocError> {
-        let value = all_replaced(alloc, self.value.as_slice(), b"<in>", given)?;
-        Ok(Field {
-            key: self.key.clone()?,
-            line: self.line,
-            value: all_replaced(alloc, value.as_slice(), b"<out>", wanted)?,
-        })
+fn numbers_in(alloc: Global, value: &[u8]) -> Result<Vec<u64>, Why> {
+    let mut numbers = Vec::new(alloc);
+    for word in text_of(value)?.split_whitespace() {
+        numbers.push(number_in(word.as_bytes())?)?;
+    }
+    Ok(numbers)
+}
+
+fn number_in(value: &[u8]) -> Result<u64, Why> {
+    match text_of(value)?.parse::<u64>() {
+        Ok(number) => Ok(number),
+        Err(_) => Err(Why::BadValue),
     }
 }
 
-fn pushed(alloc: Global, words: &mut Vec<String>, word: &str) -> Result<(), AllocError> {
-    words.push(String::from_str(alloc, word)?)?;
-    Ok(())
+fn text_of(value: &[u8]) -> Result<&str, Why> {
+    match str::from_utf8(value) {
+        Ok(text) => Ok(text),
+        Err(_) => Err(Why::BadValue),
+    }
 }

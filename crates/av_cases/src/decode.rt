@@ -13,7 +13,7 @@ pub(crate) fn decoded(alloc: Global, value: &str) -> Result<Vec<u8>, Why> {
 }
 
 // What the next byte goes on.
-#[derive(Clone, Copy, Debug, PartialEq, Eq)]
+#[derive(Clone, Copy)]
 enum State {
     Plain,
     // Behind a backslash.
@@ -26,7 +26,7 @@ enum State {
     Count(usize),
 }
 
-#[derive(Debug, Drop)]
+#[derive(Drop)]
 struct Decoder {
     bytes: Vec<u8>,
     // What is repeated so often, up to the `}`.
@@ -124,10 +124,10 @@ impl Decoder {
     }
 
     fn finish(self) -> Result<Vec<u8>, Why> {
-        if self.state != State::Plain || self.repeated.is_some() {
-            return Err(Why::BadEscape);
+        match (self.state, self.repeated) {
+            (State::Plain, None) => Ok(self.bytes),
+            _ => Err(Why::BadEscape),
         }
-        Ok(self.bytes)
     }
 }
 

@@ -27,6 +27,8 @@ pub enum Why {
     NothingToEdit,
     /// Behind a backslash stands something unknown, or a repetition has no end.
     BadEscape,
+    /// The row has more parts than there are marks.
+    TooManyParts,
     /// The value of the field isn't what the program asks for there.
     BadValue,
 }
@@ -44,6 +46,7 @@ impl fmt::Display for Why {
             Why::NoArrow => "no ` => `",
             Why::NothingToEdit => "nothing to edit",
             Why::BadEscape => "a bad escape",
+            Why::TooManyParts => "too many parts",
             Why::BadValue => "a bad value",
         };
         write!(f, "{words}")

@@ -7,7 +7,7 @@
 //! | }
 //!
 //! case other words are refused
-//! words: vectorize --sizes <in>
+//! words: vectorize --sizes $1
 //! input = add
 //! edit: module => modul
 //! status: 1
@@ -18,13 +18,14 @@
 //! ```
 //!
 //! - `text NAME` begins a text, and `KEY = NAME` gives a case's field that text.
-//! - `KEY: VALUE` gives a field the rest of the line. In it and in rows and edits `\n`, `\t`, `\r`, `\\`, `\xFF` and
-//!   `\}` are bytes, and `\{191:(}` stands for 191 times `(`.
+//! - `KEY: VALUE` gives a field the rest of the line. In it, in rows and in edits `\n`, `\t`, `\r`,
+//!   `\\`, `\xFF` and `\}` are bytes, and `\{191:(}` stands for 191 times `(`.
 //! - `| LINE` adds the line with its end to the text, field or row above, `! PIECE` adds what follows
 //!   without a line end, with the escapes of a value.
-//! - `edit: OLD => NEW` replaces the first `OLD` in the text, field or row above.
-//! - `row: IN => OUT` makes the case once for each row: in its fields `<in>` stands for `IN`, and `<out>`
-//!   for `OUT`, or for `IN` where there's no `=>`. In a row of lines the `=>` stands on a line of its own.
+//! - `edit: OLD => NEW` replaces the first `OLD` in the text above, or in the field above once it is
+//!   whole; in order, where there are several.
+//! - `row: A => B` makes the case once for each row: in its fields and edits `$1` stands for `A`, `$2` for
+//!   `B`, and so up to `$6`. In a row of lines, below an empty `row:`, an arrow stands on a line of its own.
 #![tactic(auto)]
 
 mod case;

@@ -2,7 +2,7 @@
 
 use crate::case::Case;
 use crate::decode::decoded;
-use crate::draft::{Draft, Row};
+use crate::draft::{Draft, DraftField, Edit, Row};
 use crate::fault::{CaseFault, Why};
 use crate::replace::first_replaced;
 use std::alloc::Global;
@@ -22,14 +22,14 @@ pub fn cases_of(alloc: Global, text: &str, keys: &[&str]) -> Result<Vec<Case>, C
 }
 
 // A text by its name.
-#[derive(Debug, Drop)]
+#[derive(Drop)]
 struct Named {
     name: String,
     value: Vec<u8>,
 }
 
 // What the next line of a value is added to.
-#[derive(Clone, Copy, Debug, PartialEq, Eq)]
+#[derive(Clone, Copy)]
 enum Open {
     Nothing,
     Text,
@@ -37,7 +37,7 @@ enum Open {
     Row,
 }
 
-#[derive(Debug, Drop)]
+#[derive(Drop)]
 struct Reader {
     alloc: Global,
     line: usize,
@@ -81,10 +81,7 @@ impl Reader {
             return self.take_text(name);
         }
         if let Some(name) = line.strip_prefix("case ") {
-            self.open = Open::Nothing;
-            let draft = Draft::new(self.alloc, name, self.line)?;
-            self.drafts.push(draft)?;
-            return Ok(());
+            return self.take_case(name);
         }
         if let Some(edit) = line.strip_prefix("edit: ") {
             return self.edit(edit);
@@ -106,8 +103,25 @@ impl Reader {
         Ok(())
     }
 
+    fn take_case(&mut self, name: &str) -> Result<(), Why> {
+        self.open = Open::Nothing;
+        let draft = Draft {
+            name: String::from_str(self.alloc, name)?,
+            line: self.line,
+            fields: Vec::new(self.alloc),
+            rows: Vec::new(self.alloc),
+        };
+        self.drafts.push(draft)?;
+        Ok(())
+    }
+
+    // A row that begins with an empty line is one of lines.
     fn take_row(&mut self, row: &str) -> Result<(), Why> {
-        let value = decoded(self.alloc, without_blank(row))?;
+        let value = if row.is_empty() {
+            vec![in self.alloc; b'\n']?
+        } else {
+            decoded(self.alloc, without_blank(row))?
+        };
         let line = self.line;
         let draft = self.drafts.last_mut().ok_or(Why::NothingAbove)?;
         draft.rows.push(Row { line, value })?;
@@ -132,10 +146,18 @@ impl Reader {
 
     // Adds a field to the case above.
     fn put(&mut self, key: &str, value: Vec<u8>) -> Result<(), Why> {
-        let alloc = self.alloc;
-        let line = self.line;
         let draft = self.drafts.last_mut().ok_or(Why::NothingAbove)?;
-        draft.put(alloc, key, line, value)?;
+        for field in draft.fields.iter() {
+            if field.key.as_str() == key {
+                return Err(Why::RepeatedKey);
+            }
+        }
+        draft.fields.push(DraftField {
+            key: String::from_str(self.alloc, key)?,
+            line: self.line,
+            value,
+            edits: Vec::new(self.alloc),
+        })?;
         self.open = Open::Field;
         Ok(())
     }
@@ -147,40 +169,58 @@ impl Reader {
         Ok(())
     }
 
-    // Replaces something in the value above.
+    // Replaces something in the text above, or later in the field above.
     fn edit(&mut self, edit: &str) -> Result<(), Why> {
         let alloc = self.alloc;
+        let line = self.line;
         let (old, new) = sides(edit).ok_or(Why::NoArrow)?;
         let old = decoded(alloc, old)?;
         let new = decoded(alloc, new)?;
-        let value = self.value_above().ok_or(Why::NothingAbove)?;
-        let edited = first_replaced(alloc, value.as_slice(), old.as_slice(), new.as_slice())?;
-        *value = edited.ok_or(Why::NothingToEdit)?;
+        match self.open {
+            Open::Text => {
+                let text = self.texts.last_mut().ok_or(Why::NothingAbove)?;
+                let value = text.value.as_slice();
+                let edited = first_replaced(alloc, value, old.as_slice(), new.as_slice())?;
+                text.value = edited.ok_or(Why::NothingToEdit)?;
+            }
+            Open::Field => {
+                let field = self.field_above().ok_or(Why::NothingAbove)?;
+                field.edits.push(Edit { line, old, new })?;
+            }
+            _ => return Err(Why::NothingAbove),
+        }
         Ok(())
+    }
+
+    fn field_above(&mut self) -> Option<&mut DraftField> {
+        self.drafts.last_mut()?.fields.last_mut()
     }
 
     fn value_above(&mut self) -> Option<&mut Vec<u8>> {
         match self.open {
             Open::Nothing => None,
             Open::Text => Some(&mut self.texts.last_mut()?.value),
-            Open::Field => Some(&mut self.drafts.last_mut()?.case.fields.last_mut()?.value),
+            Open::Field => Some(&mut self.field_above()?.value),
             Open::Row => Some(&mut self.drafts.last_mut()?.rows.last_mut()?.value),
         }
     }
 
     // The text of this name, if there is one.
     fn text(&self, name: &str) -> Option<&[u8]> {
-        match self.texts.iter().find(|text| text.name.as_str() == name) {
-            Some(text) => Some(text.value.as_slice()),
-            None => None,
+        for text in self.texts.iter() {
+            if text.name.as_str() == name {
+                return Some(text.value.as_slice());
+            }
         }
+        None
     }
 
     fn finish(self) -> Result<Vec<Case>, CaseFault> {
         let mut cases = Vec::new(self.alloc);
-        for draft in self.drafts {
-            let line = draft.case.line;
-            if let Err(why) = draft.add_to(self.alloc, &mut cases) {
+        let mut line = 0usize;
+        for draft in self.drafts.iter() {
+            line = draft.line;
+            if let Err(why) = draft.add_to(self.alloc, &mut cases, &mut line) {
                 return Err(CaseFault { line, why });
             }
         }
@@ -189,7 +229,12 @@ impl Reader {
 }
 
 fn is_known(key: &str, keys: &[&str]) -> bool {
-    keys.iter().any(|known| *known == key)
+    for known in keys.iter() {
+        if *known == key {
+            return true;
+        }
+    }
+    false
 }
 
 // The text without the blank that it may begin with.

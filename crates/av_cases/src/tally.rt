@@ -1,12 +1,11 @@
 //! The count of cases, and the lines of what differs.
 
 use crate::case::Case;
-use crate::fault::CaseFault;
 use crate::shown::{first_difference, shown};
 use std::alloc::{AllocError, Global};
 
 /// The count of cases, and the lines of what differs.
-#[derive(Debug, Drop)]
+#[derive(Drop)]
 pub struct Tally {
     alloc: Global,
     cases: usize,
@@ -54,14 +53,6 @@ impl Tally {
         let told = format!(in self.alloc;
             "line {line}: {name}: {what} at {place}: want \"{want}\", got \"{got}\"\n"
         )?;
-        self.lines.push_str(told.as_str())
-    }
-
-    /// Tells of a fault in the text of cases, which counts as a case that differs.
-    pub fn fault(&mut self, fault: &CaseFault) -> Result<(), AllocError> {
-        self.begin();
-        self.count_difference();
-        let told = format!(in self.alloc; "{fault}\n")?;
         self.lines.push_str(told.as_str())
     }
 
