@@ -5,7 +5,7 @@ use std::error::Error;
 use std::fmt;
 
 /// Why a line of a text of cases isn't taken.
-#[derive(Clone, Copy, Debug, Drop, PartialEq, Eq)]
+#[derive(Clone, Copy, Debug)]
 pub enum Why {
     /// Memory lacks.
     NoMemory,
@@ -68,7 +68,7 @@ impl<T: Drop> From<AllocFailed<T>> for Why {
 }
 
 /// A line of a text of cases that isn't taken, and why.
-#[derive(Clone, Copy, Debug, Drop, PartialEq, Eq)]
+#[derive(Clone, Copy, Debug)]
 pub struct CaseFault {
     /// The line, counted from 1.
     pub line: usize,

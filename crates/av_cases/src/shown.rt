@@ -29,8 +29,12 @@ fn push_byte(text: &mut String, byte: u8) -> Result<(), AllocError> {
 
 /// The first place at which two differ, or the end of the shorter one.
 pub(crate) fn first_difference(left: &[u8], right: &[u8]) -> usize {
-    match left.iter().zip(right.iter()).position(|(l, r)| l != r) {
-        Some(place) => place,
-        None => left.len().min(right.len()),
+    let mut place = 0usize;
+    for (l, r) in left.iter().zip(right.iter()) {
+        if *l != *r {
+            break;
+        }
+        place = place.saturating_add(1);
     }
+    place
 }

@@ -1,4 +1,5 @@
 //! The count of cases, and the lines of what differs.
+ghost use Rattle.std.specs.Prelude.{◌<◌, IsTrue};
 
 use crate::case::Case;
 use crate::shown::{first_difference, shown};
@@ -13,11 +14,17 @@ pub struct Tally {
     // Whether the last case differs.
     differs: bool,
     lines: String,
+    ghost counted: { IsTrue differs → 0 < differ },
 }
 
 impl Tally {
+    ghost use Rattle.std.specs.Prelude.{◌≡◌, ◌<◌, ◌↔◌, IsTrue};
+    ghost use Rattle.av_cases.specs.Tally.{differing};
+
     /// The count of no case.
-    pub fn new(alloc: Global) -> Tally {
+    pub fn new(alloc: Global) -> Tally
+        ensures { differing result ≡ 0 }
+    {
         Tally {
             alloc,
             cases: 0,
@@ -28,7 +35,9 @@ impl Tally {
     }
 
     /// Counts one more case, to which the comparisons from now on belong.
-    pub fn begin(&mut self) {
+    pub fn begin(&mut self)
+        ensures { differing self.new ≡ differing self.old }
+    {
         self.cases = self.cases.saturating_add(1);
         self.differs = false;
     }
@@ -40,7 +49,10 @@ impl Tally {
         what: &str,
         want: &[u8],
         got: &[u8],
-    ) -> Result<(), AllocError> {
+    ) -> Result<(), AllocError>
+        ensures same { want.now ≡ got.now → differing self.new ≡ differing self.old }
+        ensures told { (want.now ≡ got.now → ⊥) → 0 < differing self.new }
+    {
         if want == got {
             return Ok(());
         }
@@ -57,7 +69,9 @@ impl Tally {
     }
 
     /// Whether no case differs.
-    pub fn is_clean(&self) -> bool {
+    pub fn is_clean(&self) -> bool
+        ensures { IsTrue result ↔ (differing self.now ≡ 0) }
+    {
         self.differ == 0
     }
 
@@ -71,7 +85,9 @@ impl Tally {
         Ok(lines)
     }
 
-    fn count_difference(&mut self) {
+    fn count_difference(&mut self)
+        ensures { 0 < differing self.new }
+    {
         if !self.differs {
             self.differs = true;
             self.differ = self.differ.saturating_add(1);
