@@ -39,6 +39,14 @@ pub fn derivation(alloc: Global, text: &[u8], limits: Limits) -> Result<String, 
     }
 }
 
+/// Whether a text has a tree.
+pub fn reading(alloc: Global, text: &[u8]) -> Result<String, Stop>
+    requires { length text.now ≤ 2 ^ 20 }
+{
+    let _tree = tree(alloc, text)?;
+    Ok(String::from_str(alloc, "read")?)
+}
+
 /// The tree of a text.
 pub fn tree(alloc: Global, text: &[u8]) -> Result<Tree, Stop>
     requires { length text.now ≤ 2 ^ 20 }

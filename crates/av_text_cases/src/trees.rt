@@ -3,15 +3,20 @@ ghost use Rattle.std.specs.Prelude.{◌≤◌, ◌^◌, length};
 
 use crate::stop::Stop;
 use crate::texts::tree;
-use av_affine::Text;
+use av_affine::Seq;
 use av_io::PlainSink;
+use av_ir::{Func, Marks, Module, marked};
 use av_printer::{Form, print, spell};
+use av_shapes::Shape;
 use av_totree::to_tree;
 use av_verify::{Mode, is_first_path, verify};
 use std::alloc::{AllocError, Global};
 
 /// The most bytes that a sink takes at a time.
 const SINK_BYTES: usize = 7;
+
+/// The size by which a module is to be vectorized.
+const SIZE: u16 = 4;
 
 /// The tree of a text, printed.
 pub fn printed(alloc: Global, text: &[u8], form: Form) -> Result<String, Stop>
@@ -37,8 +42,23 @@ pub fn path(alloc: Global, text: &[u8]) -> Result<String, Stop>
     requires { length text.now ≤ 2 ^ 20 }
 {
     let tree = tree(alloc, text)?;
-    let answer = if is_first_path(&tree) { "taken" } else { "not taken" };
+    let answer = if is_first_path(&tree) {
+        "taken"
+    } else {
+        "not taken"
+    };
     Ok(String::from_str(alloc, answer)?)
+}
+
+/// What answers a text whose module is to be vectorized: the module with marks, printed.
+pub fn answer(alloc: Global, text: &[u8], form: Form) -> Result<String, Stop>
+    requires { length text.now ≤ 2 ^ 20 }
+{
+    let read = tree(alloc, text)?;
+    let mode = Mode::Scalar(Shape::new(alloc, &[SIZE], false));
+    let module = verify(alloc, &read, &mode)?;
+    let module = marked(alloc, &module)?;
+    shown(alloc, &module, form)
 }
 
 /// The number of operations of the module of a text, itself included.
@@ -57,7 +77,33 @@ pub fn written(alloc: Global, text: &[u8], form: Form) -> Result<String, Stop>
 {
     let read = tree(alloc, text)?;
     let module = verify(alloc, &read, &Mode::Run)?;
-    let tree = to_tree(alloc, &module)?;
+    shown(alloc, &module, form)
+}
+
+/// The last function of a text, as one whose buffers are told apart, printed.
+pub fn distinct(alloc: Global, text: &[u8]) -> Result<String, Stop>
+    requires { length text.now ≤ 2 ^ 20 }
+{
+    let read = tree(alloc, text)?;
+    let module = verify(alloc, &read, &Mode::Run)?;
+    let mut funcs = Seq::new(alloc);
+    if let Some(func) = module.funcs.into_vec().pop() {
+        funcs.push(told_apart(func))?;
+    }
+    let owners = Seq::new(alloc);
+    shown(alloc, &Module { funcs, owners }, Form::Named)
+}
+
+fn told_apart(func: Func) -> Func {
+    let marks = Marks {
+        distinct: true,
+        ..func.marks
+    };
+    Func { marks, ..func }
+}
+
+fn shown(alloc: Global, module: &Module, form: Form) -> Result<String, Stop> {
+    let tree = to_tree(alloc, module)?;
     let output = spell(alloc, &tree, form)?;
     Ok(string_of(alloc, output.as_slice())?)
 }
