@@ -1,7 +1,7 @@
 //! The calls that a case may ask for.
 ghost use Rattle.std.specs.Prelude.{◌≤◌, ◌^◌, length};
 
-use crate::prefixes::{prefixes_between_tokens, prefixes_within};
+use crate::prefixes::prefixes;
 use crate::stop::Stop;
 use crate::texts::{derivation, reading, tokens};
 use crate::trees::{answer, distinct, path, printed, sunk, verified, written};
@@ -21,8 +21,6 @@ pub enum Call {
     Read,
     /// `read each prefix`
     EachPrefix,
-    /// `read each prefix between tokens`
-    EachBetweenTokens,
     /// `print named` and `print generic`
     Print(Form),
     /// `print named to a sink` and `print generic to a sink`
@@ -47,7 +45,6 @@ impl Call {
             b"derive" => Ok(Call::Derive(limits_of(case)?)),
             b"read" => Ok(Call::Read),
             b"read each prefix" => Ok(Call::EachPrefix),
-            b"read each prefix between tokens" => Ok(Call::EachBetweenTokens),
             b"print named" => Ok(Call::Print(Form::Named)),
             b"print generic" => Ok(Call::Print(Form::Generic)),
             b"print named to a sink" => Ok(Call::Sink(Form::Named)),
@@ -80,8 +77,7 @@ impl Call {
             Call::Lex => tokens(alloc, text),
             Call::Derive(limits) => derivation(alloc, text, limits),
             Call::Read => reading(alloc, text),
-            Call::EachPrefix => prefixes_within(alloc, text),
-            Call::EachBetweenTokens => prefixes_between_tokens(alloc, text),
+            Call::EachPrefix => prefixes(alloc, text),
             Call::Print(form) => printed(alloc, text, form),
             Call::Sink(form) => sunk(alloc, text, form),
             Call::IsFirstPath => path(alloc, text),

@@ -12,38 +12,30 @@ mod stop;
 mod texts;
 mod trees;
 
+use anyhow::{Result, ensure};
 use av_cases::{Case, Tally, cases_of};
 use question::{FIELDS, Question};
-use std::alloc::{AllocError, Global};
+use std::alloc::Global;
 use std::io;
 
-fn main(rt: HostRuntime) -> io::Result<()> {
-    let text = io::read_to_string(rt.alloc(), rt.stdin())?;
-    let told = judged(rt.alloc(), text.as_str())?;
-    print!(rt; "{told}")
-}
-
-// What differs in the cases of a text, and their count.
-fn judged(alloc: Global, text: &str) -> Result<String, AllocError> {
+fn main(rt: HostRuntime) -> Result<()> {
+    let alloc = rt.alloc();
+    let text = io::read_to_string(alloc, rt.reader())?;
     let mut tally = Tally::new(alloc);
-    match cases_of(alloc, text, &FIELDS) {
-        Ok(cases) => {
-            for case in cases.as_slice() {
-                judge(alloc, case, &mut tally)?;
-            }
-        }
-        Err(fault) => tally.fault(&fault)?,
+    for case in cases_of(alloc, text.as_str(), &FIELDS)?.iter() {
+        tally.begin();
+        check(alloc, case, &mut tally)?;
     }
-    tally.finish()
+    let is_clean = tally.is_clean();
+    let report = tally.finish()?;
+    print!(rt; "{report}")?;
+    ensure!(is_clean, "some cases differ");
+    Ok(())
 }
 
-fn judge(alloc: Global, case: &Case, tally: &mut Tally) -> Result<(), AllocError> {
-    match Question::of(alloc, case) {
-        Ok(question) => {
-            let given = question.call.gives(alloc, question.text.as_slice())?;
-            tally.begin();
-            tally.compare(case, "gives", question.gives.as_slice(), given.as_bytes())
-        }
-        Err(fault) => tally.fault(&fault),
-    }
+fn check(alloc: Global, case: &Case, tally: &mut Tally) -> Result<()> {
+    let question = Question::of(alloc, case)?;
+    let given = question.call.gives(alloc, question.text.as_slice())?;
+    tally.compare(case, "gives", question.gives.as_slice(), given.as_bytes())?;
+    Ok(())
 }

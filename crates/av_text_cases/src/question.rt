@@ -7,7 +7,7 @@ use av_cases::{Case, CaseFault, Why, all_replaced};
 use std::alloc::{AllocError, Global};
 
 /// The fields of a case.
-pub const FIELDS: [&str; 6] = ["do", "text", "marked", "brackets", "signs", "gives"];
+pub const FIELDS: [&str; 6] = ["do", "input", "marked", "brackets", "signs", "gives"];
 
 // What stands in a marked text at the place that is told.
 const MARK: u8 = b'|';
@@ -28,11 +28,11 @@ impl Question {
         let (text, gives) = if case.is_yes("marked")? {
             unmarked(alloc, case)?
         } else {
-            let text = field(alloc, case, "text")?;
+            let text = field(alloc, case, "input")?;
             (text, field(alloc, case, "gives")?)
         };
         if text.len() > MOST_BYTES {
-            return Err(case.fault("text", Why::BadValue));
+            return Err(case.fault("input", Why::BadValue));
         }
         Ok(Question { call, text, gives })
     }
@@ -40,13 +40,13 @@ impl Question {
 
 // The text without its mark, and what it gives with the mark's place for each `<place>`.
 fn unmarked(alloc: Global, case: &Case) -> Result<(Vec<u8>, Vec<u8>), CaseFault> {
-    let text = case.bytes("text");
+    let text = case.bytes("input");
     let Some(place) = text.iter().position(|byte| *byte == MARK) else {
-        return Err(case.fault("text", Why::BadValue));
+        return Err(case.fault("input", Why::BadValue));
     };
     match parts(alloc, text, place, case.bytes("gives")) {
         Ok(parts) => Ok(parts),
-        Err(_) => Err(case.fault("text", Why::NoMemory)),
+        Err(_) => Err(case.fault("input", Why::NoMemory)),
     }
 }
 
