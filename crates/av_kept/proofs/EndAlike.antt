@@ -1,15 +1,17 @@
 -- A module without vectors and that module with its marks end alike.
-use Rattle.std.proofs.Common.{◌≡◌, ◌∙◌, ℕ, List, [], ◌∷◌, map, refl, sym, subst}
+use Rattle.std.proofs.Common.{◌≡◌, ◌∙◌, ℕ, List, [], ◌∷◌, map, refl, sym, ap, subst}
 use Rattle.std.specs.List.{All, AllZip}
 use Rattle.std.proofs.lemmas.List.Elements.{All-head, All-tail}
 use Rattle.av_ir.specs.declared.run.Args.{Args}
 use Rattle.av_ir.specs.declared.types.Ended.{Ended}
+use Rattle.av_ir.specs.declared.module.Op.{Op}
+use Rattle.av_ir.specs.declared.module.Region.{Region, Region-F, out-Region, roll-out-Region, out-roll-Region}
 use Rattle.av_ir.specs.declared.module.Func.{Func}
 use Rattle.av_ir.specs.declared.module.Module.{Module}
-use Rattle.av_ir.specs.Run.{Run}
-use Rattle.av_ir.specs.Marks.{in_turn, marked_func, marked_of}
+use Rattle.av_ir.specs.Run.{Run, types_at}
+use Rattle.av_ir.specs.Marks.{Made, in_turn, marked_op, marked_region, marked_func, marked_of}
 use Rattle.av_ir.specs.ScalarRun.{run_scalar_of}
-use Rattle.av_ir.proofs.MarkedLevels.{funcs_alike}
+use Rattle.av_ir.proofs.MarkedLevels.{marked_region-roll, funcs_alike}
 use Rattle.av_flat.specs.Laws.{HasNoVector}
 use Rattle.av_flat.proofs.Agreement.{flat_is_scalar}
 use Rattle.av_tree.specs.declared.node.Tree.{Tree}
@@ -26,9 +28,18 @@ unfolding in_turn
 scalar_alike f loops args =
     heads (run_scalar_of (marked_func f loops).made args) (run_scalar_of f args) (funcs_alike args (f ∷ []) loops)
 
+arguments_kept : (region : Region) (loops : ℕ) → (out-Region (marked_region region loops).made).args ≡ (out-Region region).args
+arguments_kept region loops =
+    let x = out-Region region in
+    ap (λ (r : Region). (out-Region (marked_region r loops).made).args) (sym (roll-out-Region region))
+    ∙ ap (λ (m : Made Region). (out-Region m.made).args) (marked_region-roll x loops)
+    ∙ ap (λ (y : Region-F Op Region). y.args) (out-roll-Region (record { args = x.args; ops = (in_turn (map marked_op x.ops) loops).made }))
+
 func_ends_alike : (scale : ℕ) (f : Func) (loops : ℕ) → HasNoVector f → EndsAlikeAt scale f (marked_func f loops).made
 func_ends_alike scale f loops none = record {
   name = refl;
+  arguments = ap (types_at f.values) (arguments_kept f.body loops);
+  results = refl;
   alike = λ args good.
       subst (λ (run : Run Ended). EndsWith run good.outcome)
       (sym (flat_is_scalar scale (marked_func f loops).made args none ∙ scalar_alike f loops args)) good.without_trap;
