@@ -19,7 +19,7 @@ use Rattle.av_scalar.specs.declared.bounds.Turns.{Turns}
 use Rattle.av_scalar.specs.Maps.{IsTurns}
 use Rattle.av_scalar.specs.Meeting.{EndsAt, Leads, Stops}
 use Rattle.av_scalar.specs.Names.{values}
-use Rattle.av_scalar.specs.Runnable.{AreValues, IsRunnable, IsRunnableRegion}
+use Rattle.av_ir.specs.WellFormed.{AreValues, IsWellFormedOp, IsWellFormedRegion}
 use Rattle.av_scalar.specs.Stores.{AreSmall, sizes_of}
 use Rattle.av_scalar.proofs.Meetings.{goes_on, breaks_off}
 use Rattle.av_scalar.proofs.Parts.{ends_now}

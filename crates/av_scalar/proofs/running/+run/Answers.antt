@@ -14,7 +14,7 @@ use Rattle.av_ir.specs.ScalarRun.{first_body, greatest, index_value, loop_from, 
 use Rattle.av_scalar.specs.Machines.{acts_of, bodies_of, ending_of, given_with, handed_of, memory_in, state_of, work_of}
 use Rattle.av_scalar.specs.Meeting.{EndsAt, Leads, Stops}
 use Rattle.av_scalar.specs.Names.{Since, env_of, unwound, values}
-use Rattle.av_scalar.specs.Runnable.{HasUsableMaps, IsRunnable, IsRunnableRegion}
+use Rattle.av_ir.specs.WellFormed.{HasUsableMaps, IsWellFormedOp, IsWellFormedRegion}
 use Rattle.av_scalar.specs.Stores.{memory_of}
 use Rattle.av_scalar.proofs.Bindings.{as_many_words, restored, since_then}
 use Rattle.av_scalar.proofs.Meetings.{leads_on}
@@ -42,7 +42,7 @@ run_op-returns-in_err-outcome-clause-meets t c = λ handed.
 pub run_op-bind-requires : goal.run_op-bind-requires
 run_op-bind-requires t c =
     named_in (length c.args.machine.now.names.words) (length c.work.new.machine.names.words) (out-Op c.args.op.now).results c.as_slice-2.result.now
-    c.as_slice-2.ensures (ap (λ n. length n.words) c.in_ok-outcome.ensures.names) (results_named (length c.args.machine.now.names.words) c.args.op.now c.requires.runnable)
+    c.as_slice-2.ensures (ap (λ n. length n.words) c.in_ok-outcome.ensures.names) (results_named (length c.args.machine.now.names.words) c.args.op.now c.requires.formed)
 
 pub run_op-returns-clause-meets : goal.run_op-returns-clause-meets
 run_op-returns-clause-meets t c = λ handed.
@@ -60,8 +60,8 @@ pub run_ops-run_op-requires : goal.run_ops-run_op-requires
 run_ops-run_op-requires t c = (
   search (rules, op_lemmas),
   (
-    one_as IsRunnable (length c.args.machine.now.names.words) (length c.loop-op.machine.names.words) c.args.ops.now c.loop-op.op-index c.op-item.result
-        c.loop-op-test.true c.op-item.is (as_many_words c.args.machine.now.names c.loop-op.machine.names c.loop-op.invariant.since) c.requires.runnable,
+    one_as IsWellFormedOp (length c.args.machine.now.names.words) (length c.loop-op.machine.names.words) c.args.ops.now c.loop-op.op-index c.op-item.result
+        c.loop-op-test.true c.op-item.is (as_many_words c.args.machine.now.names c.loop-op.machine.names c.loop-op.invariant.since) c.requires.formed,
     small_kept c.args.machine.now.memory.items c.loop-op.machine.memory.items c.loop-op.invariant.sizes c.requires.small,
   ),
 )
@@ -95,15 +95,15 @@ run_ops-loop-op-preserved t c =
 pub run_region-bind-requires : goal.run_region-bind-requires
 run_region-bind-requires t c =
     named_in (length c.args.machine.now.names.words) (length c.args.machine.now.names.words) (out-Region c.args.region.now).args c.as_slice.result.now
-    c.as_slice.ensures refl (args_named (length c.args.machine.now.names.words) c.args.region.now c.requires.runnable)
+    c.as_slice.ensures refl (args_named (length c.args.machine.now.names.words) c.args.region.now c.requires.formed)
 
 pub run_region-run_ops-requires : goal.run_region-run_ops-requires
 run_region-run_ops-requires t c = (
   search (rules, region_lemmas),
   (
-    all_as IsRunnable (length c.args.machine.now.names.words) (length c.bind.new.self.words) (out-Region c.args.region.now).ops c.as_slice-2.result.now
+    all_as IsWellFormedOp (length c.args.machine.now.names.words) (length c.bind.new.self.words) (out-Region c.args.region.now).ops c.as_slice-2.result.now
         c.as_slice-2.ensures (as_many_words c.args.machine.now.names c.bind.new.self c.in_ok-bind.ensures.since)
-        (ops_run (length c.args.machine.now.names.words) c.args.region.now c.requires.runnable),
+        (ops_run (length c.args.machine.now.names.words) c.args.region.now c.requires.formed),
     c.requires.small,
   ),
 )
@@ -147,8 +147,8 @@ pub run_turns-run_body-requires : goal.run_turns-run_body-requires
 run_turns-run_body-requires t c = (
   search (rules, region_lemmas),
   (
-    all_as IsRunnableRegion (length c.args.machine.now.names.words) (length c.loop-turn.machine.names.words) c.args.regions.now c.args.regions.now refl
-        (ap (λ n. length n.words) c.loop-turn.invariant.names) c.requires.runnable,
+    all_as IsWellFormedRegion (length c.args.machine.now.names.words) (length c.loop-turn.machine.names.words) c.args.regions.now c.args.regions.now refl
+        (ap (λ n. length n.words) c.loop-turn.invariant.names) c.requires.formed,
     small_kept c.args.machine.now.memory.items c.loop-turn.machine.memory.items c.loop-turn.invariant.sizes c.requires.small,
   ),
 )
@@ -207,11 +207,11 @@ run_turns-returns-clause-meets t c = λ first is.
 -- ---- the work of each kind
 pub work-turns_of-requires-clause-lower : goal.work-turns_of-requires-clause-lower
 work-turns_of-requires-clause-lower t c =
-    (subst HasUsableMaps c.in-AffineFor.is (usable_maps (length c.args.machine.now.names.words) c.args.op.now c.requires.runnable)).0
+    (subst HasUsableMaps c.in-AffineFor.is (usable_maps (length c.args.machine.now.names.words) c.args.op.now c.requires.formed)).0
 
 pub work-turns_of-requires-clause-upper : goal.work-turns_of-requires-clause-upper
 work-turns_of-requires-clause-upper t c =
-    (subst HasUsableMaps c.in-AffineFor.is (usable_maps (length c.args.machine.now.names.words) c.args.op.now c.requires.runnable)).1
+    (subst HasUsableMaps c.in-AffineFor.is (usable_maps (length c.args.machine.now.names.words) c.args.op.now c.requires.formed)).1
 
 pub work-returns-in_err-turns-in-AffineFor-clause-meets : goal.work-returns-in_err-turns-in-AffineFor-clause-meets
 work-returns-in_err-turns-in-AffineFor-clause-meets t c =
@@ -225,8 +225,8 @@ pub work-run_turns-requires : goal.work-run_turns-requires
 work-run_turns-requires t c = (
   search (rules, op_lemmas),
   (
-    all_as IsRunnableRegion (length c.args.machine.now.names.words) (length c.args.machine.now.names.words) (out-Op c.args.op.now).regions c.as_slice-regions.result.now c.as_slice-regions.ensures refl
-        (regions_run (length c.args.machine.now.names.words) c.args.op.now c.requires.runnable),
+    all_as IsWellFormedRegion (length c.args.machine.now.names.words) (length c.args.machine.now.names.words) (out-Op c.args.op.now).regions c.as_slice-regions.result.now c.as_slice-regions.ensures refl
+        (regions_run (length c.args.machine.now.names.words) c.args.op.now c.requires.formed),
     c.requires.small,
   ),
 )
@@ -258,10 +258,10 @@ work-returns-in_ok-words-in-AffineFor-clause-meets t c =
     (c.in_ok-words-in-AffineFor.ensures.meets (greatest its.low) its.first))
 
 pub work-load-requires-clause-map : goal.work-load-requires-clause-map
-work-load-requires-clause-map t c = subst HasUsableMaps c.in-AffineLoad.is (usable_maps (length c.args.machine.now.names.words) c.args.op.now c.requires.runnable)
+work-load-requires-clause-map t c = subst HasUsableMaps c.in-AffineLoad.is (usable_maps (length c.args.machine.now.names.words) c.args.op.now c.requires.formed)
 
 pub work-store-requires-clause-map : goal.work-store-requires-clause-map
-work-store-requires-clause-map t c = subst HasUsableMaps c.in-AffineStore.is (usable_maps (length c.args.machine.now.names.words) c.args.op.now c.requires.runnable)
+work-store-requires-clause-map t c = subst HasUsableMaps c.in-AffineStore.is (usable_maps (length c.args.machine.now.names.words) c.args.op.now c.requires.formed)
 
 pub work-returns-in-ArithConstant-clause-meets : goal.work-returns-in-ArithConstant-clause-meets
 work-returns-in-ArithConstant-clause-meets t c = rw c.in-ArithConstant.is (c.give_constant.ensures (memory_in c.args.standing.now c.args.machine.now) c.args.machine.now.left)
