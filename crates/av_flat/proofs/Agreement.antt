@@ -125,3 +125,9 @@ module _ (scale : ℕ) (types : List Ty) (none : All IsNoVector types) where
 pub flat_is_scalar : (scale : ℕ) (f : Func) (args : Args) → IsScalarFunc f → run_flat_of scale f args ≡ run_scalar_of f args
 flat_is_scalar scale f args h =
     ap (λ run. followed (run (λ k. word 0) (argument_values 0 args.list) (first_memory f args)) ended_with) (same_region scale f.values h.types f.body h.ops)
+
+pub all_alike : (scale : ℕ) (args : Args) (fs : List Func) → All IsScalarFunc fs → map (λ f. run_flat_of scale f args) fs ≡ map (λ f. run_scalar_of f args) fs
+all_alike scale args [] h = refl
+all_alike scale args (f ∷ fs) h =
+    ap (λ r. r ∷ map (λ g. run_flat_of scale g args) fs) (flat_is_scalar scale f args (h 0 f (omega arith)))
+    ∙ ap (λ rs. run_scalar_of f args ∷ rs) (all_alike scale args fs (λ k d below. h (suc k) d (omega arith)))

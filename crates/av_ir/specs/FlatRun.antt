@@ -17,9 +17,9 @@ use Rattle.av_ir.specs.declared.module.Const.TheVariants.{Splat, Each}
 use Rattle.av_ir.specs.declared.module.OpKind.{OpKind}
 use Rattle.av_ir.specs.declared.module.OpKind.TheVariants.{ArithConstant, ArithBinary, ArithCmpi, ArithSelect, ArithCast, ScfFor, ScfYield, VectorLoad, VectorStore, VectorMaskedLoad, VectorMaskedStore, VectorGather, VectorScatter, VectorBroadcast, VectorCreateMask, VectorReduction, VectorExtract, VectorInsert, VectorShuffle, VectorStep, VectorVscale}
 use Rattle.av_ir.specs.declared.module.Func.{Func}
-use Rattle.av_ir.specs.Run.{Value, word, lanes, word_of, word_at, Memory, Run, traps, followed, Given, Body, run_region, gives, hands}
+use Rattle.av_ir.specs.Run.{Value, word, lanes, word_of, word_at, Memory, Run, traps, Given, Body, gives, hands}
 use Rattle.av_ir.specs.Elements.{element_width, first_width, low, bit_of, binary_element, compare_element, select_element, cast_element, Form, one, many, form_of, lane_of, elementwise}
-use Rattle.av_ir.specs.ScalarRun.{constant_of, index_at, subscripts, first_body, perform_loop, perform, argument_values, first_memory, ended_with}
+use Rattle.av_ir.specs.ScalarRun.{constant_of, index_at, subscripts, first_body, perform_loop, perform, run_func_by}
 use Rattle.av_ir.specs.Lanes.{Lane, lane_at, lanes_loaded, lanes_stored}
 
 -- ---- vectors
@@ -161,5 +161,4 @@ perform_flat scale operands results VectorVscale number values bodies memory = g
 perform_flat scale operands results kind number values bodies memory = perform operands results kind number values bodies memory
 
 abbrev pub run_flat_of : ℕ → Func → Args → Run Ended
-run_flat_of scale f args =
-    followed (run_region (perform_flat scale) f.values f.body (λ k. word 0) (argument_values 0 args.list) (first_memory f args)) ended_with
+run_flat_of scale = run_func_by (perform_flat scale)

@@ -10,5 +10,7 @@ pub mod WellFormed
 pub mod Examples
 pub mod Marks
 pub mod MarkedRuns
+pub mod Turns
+pub mod Numbers
 pub mod Lanes
 pub mod FlatRun

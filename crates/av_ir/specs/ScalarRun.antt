@@ -25,7 +25,7 @@ use Rattle.av_ir.specs.declared.module.Func.{Func}
 use Rattle.av_ir.specs.declared.module.Region.{out-Region}
 use Rattle.av_ir.specs.Places.{place_of}
 use Rattle.av_ir.specs.Memory.{buffer_at, bound_of}
-use Rattle.av_ir.specs.Run.{Value, word, word_of, word_at, Memory, Run, ends, traps, after, followed, Given, Ending, Body, types_at, run_region, gives, hands}
+use Rattle.av_ir.specs.Run.{Value, word, word_of, word_at, Memory, Run, ends, traps, after, followed, Given, Ending, Body, Perform, types_at, run_region, gives, hands}
 use Rattle.av_ir.specs.Elements.{first_width, binary_element, compare_element, select_element, cast_element, one, elementwise}
 
 -- a constant of a scalar type is one pattern
@@ -244,6 +244,10 @@ abbrev pub ended_with : Ending → Run Ended
 ended_with e =
     ends (record { buffers = map (buffer_at e.memory.buffers) e.memory.stands; results = map word_of e.handed }) 0
 
+-- the run of a function from arguments, where operations do this work
+abbrev pub run_func_by : Perform → Func → Args → Run Ended
+run_func_by work f args =
+    followed (run_region work f.values f.body (λ k. word 0) (argument_values 0 args.list) (first_memory f args)) ended_with
+
 abbrev pub run_scalar_of : Func → Args → Run Ended
-run_scalar_of f args =
-    followed (run_region perform f.values f.body (λ k. word 0) (argument_values 0 args.list) (first_memory f args)) ended_with
+run_scalar_of = run_func_by perform

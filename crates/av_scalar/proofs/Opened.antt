@@ -1,4 +1,4 @@
--- Parts of what can be run.
+-- Parts of what is well formed.
 use Rattle.std.proofs.Common.{◌≡◌, ℕ, List, [], ◌∷◌, get_or, map, ap, subst, refl}
 use Rattle.std.specs.List.{All}
 use Rattle.std.proofs.lemmas.List.Elements.{All-map, All-head, All-tail}
@@ -17,9 +17,9 @@ pub results_named : (count : ℕ) (op : Op) → IsWellFormedOp count op → AreV
 unfolding IsWellFormedOp IsWellFormedRegion
 results_named count op h = (every_here-Op (OpIsWellFormed count) (RegionIsWellFormed count) op h).1
 
-pub regions_run : (count : ℕ) (op : Op) → IsWellFormedOp count op → All (IsWellFormedRegion count) (out-Op op).regions
+pub regions_formed : (count : ℕ) (op : Op) → IsWellFormedOp count op → All (IsWellFormedRegion count) (out-Op op).regions
 unfolding IsWellFormedOp IsWellFormedRegion
-regions_run count op h =
+regions_formed count op h =
     let held = every_held-Op (OpIsWellFormed count) (RegionIsWellFormed count) op h in
     all_firsts (IsWellFormedRegion count) (out-Op op).regions held.0.regions (ap (λ o. o.regions) held.1)
 
@@ -27,9 +27,9 @@ pub args_named : (count : ℕ) (region : Region) → IsWellFormedRegion count re
 unfolding IsWellFormedOp IsWellFormedRegion
 args_named count region h = every_here-Region (OpIsWellFormed count) (RegionIsWellFormed count) region h
 
-pub ops_run : (count : ℕ) (region : Region) → IsWellFormedRegion count region → All (IsWellFormedOp count) (out-Region region).ops
+pub ops_formed : (count : ℕ) (region : Region) → IsWellFormedRegion count region → All (IsWellFormedOp count) (out-Region region).ops
 unfolding IsWellFormedOp IsWellFormedRegion
-ops_run count region h =
+ops_formed count region h =
     let held = every_held-Region (OpIsWellFormed count) (RegionIsWellFormed count) region h in
     all_firsts (IsWellFormedOp count) (out-Region region).ops held.0.ops (ap (λ r. r.ops) held.1)
 
@@ -43,9 +43,9 @@ unfolding pairs
 firsts P [] h = refl
 firsts P (x ∷ xs) h = ap (λ l. x ∷ l) (firsts P xs (All-tail P x xs h))
 
-pub runs_if : (count : ℕ) (op : Op) → HasUsableMaps (out-Op op).kind → AreValues count (out-Op op).results → All (IsWellFormedRegion count) (out-Op op).regions → IsWellFormedOp count op
+pub formed_if : (count : ℕ) (op : Op) → HasUsableMaps (out-Op op).kind → AreValues count (out-Op op).results → All (IsWellFormedRegion count) (out-Op op).regions → IsWellFormedOp count op
 unfolding IsWellFormedOp IsWellFormedRegion
-runs_if count op maps results regions =
+formed_if count op maps results regions =
     let o = out-Op op in
     subst (every-Op (OpIsWellFormed count) (RegionIsWellFormed count)) (roll-out-Op op)
     (every_made-Op (OpIsWellFormed count) (RegionIsWellFormed count) o
@@ -53,9 +53,9 @@ runs_if count op maps results regions =
     (λ i. record { number = o.number; kind = o.kind; operands = o.operands; results = o.results; regions = (firsts (every-Region (OpIsWellFormed count) (RegionIsWellFormed count)) o.regions regions) i; marks = o.marks })
     (maps, results))
 
-pub region_runs_if : (count : ℕ) (region : Region) → AreValues count (out-Region region).args → All (IsWellFormedOp count) (out-Region region).ops → IsWellFormedRegion count region
+pub region_formed_if : (count : ℕ) (region : Region) → AreValues count (out-Region region).args → All (IsWellFormedOp count) (out-Region region).ops → IsWellFormedRegion count region
 unfolding IsWellFormedOp IsWellFormedRegion
-region_runs_if count region args ops =
+region_formed_if count region args ops =
     let r = out-Region region in
     subst (every-Region (OpIsWellFormed count) (RegionIsWellFormed count)) (roll-out-Region region)
     (every_made-Region (OpIsWellFormed count) (RegionIsWellFormed count) r

@@ -144,8 +144,8 @@ pub sizes_stop : (number : ℕ) (sizes : Option ℕ) (memory : Memory) → None 
 sizes_stop number sizes memory is = traps_now (size_given number sizes memory) OutOfBounds number (ap (λ s. size_given number s memory) (sym is))
 
 -- the size that operands ask for
-pub size_asked : (memory : Memory) (ws : List ℕ) (k d : ℕ) (z : ℤ) → k ≡ get_or ws 0 0 → d ≡ get_or ws 1 0 → z ≡ signed_value 64 d
-    → size_at (buffer_of memory k).sizes z ≡ size_at (buffer_of memory (word_at (values ws) 0)).sizes (index_at (values ws) 1)
-size_asked memory ws k d z memref dimension is =
-    ap (λ j. size_at (buffer_of memory j).sizes z) (memref ∙ sym (word_at-values ws 0))
-    ∙ ap (size_at (buffer_of memory (word_at (values ws) 0)).sizes) (is ∙ ap (signed_value 64) (dimension ∙ sym (word_at-values ws 1)))
+pub size_asked : (memory : Memory) (ws : List ℕ) (k d : ℕ) → k ≡ get_or ws 0 0 → d ≡ get_or ws 1 0
+    → size_at (buffer_of memory k).sizes (signed_value 64 d) ≡ size_at (buffer_of memory (word_at (values ws) 0)).sizes (index_at (values ws) 1)
+size_asked memory ws k d memref dimension =
+    ap (λ j. size_at (buffer_of memory j).sizes (signed_value 64 d)) (memref ∙ sym (word_at-values ws 0))
+    ∙ ap (λ e. size_at (buffer_of memory (word_at (values ws) 0)).sizes (signed_value 64 e)) (dimension ∙ sym (word_at-values ws 1))

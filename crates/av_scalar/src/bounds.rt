@@ -10,8 +10,8 @@ ghost use Rattle.av_scalar.specs.Meeting.{Stops};
 ghost use Rattle.av_scalar.specs.Names.{values};
 
 use super::maps::{behind, evaluate};
+use super::words::index_word;
 use av_affine::{AffMap, No, Seq};
-use av_bits::{Width, wrap};
 use av_ir::RunStop;
 use std::alloc::{AllocError, Global};
 
@@ -32,8 +32,8 @@ pub enum Choice {
     Greatest,
 }
 
-/// The number that is meant, and 0 if there is none.
-pub fn chosen(choice: Choice, numbers: &[i64]) -> i64
+// The number that is meant, and 0 if there is none.
+fn chosen(choice: Choice, numbers: &[i64]) -> i64
     ensures { result ≡ choice_of choice numbers.now }
 {
     match choice {
@@ -41,6 +41,13 @@ pub fn chosen(choice: Choice, numbers: &[i64]) -> i64
         Choice::Least => least(numbers),
         Choice::Greatest => greatest(numbers),
     }
+}
+
+/// The word of the number that is meant.
+pub fn chosen_word(choice: Choice, numbers: &[i64]) -> u64
+    ensures { result ≡ pattern_of 64 (choice_of choice numbers.now) }
+{
+    index_word(chosen(choice, numbers))
 }
 
 fn first(numbers: &[i64]) -> i64
@@ -94,7 +101,7 @@ fn between(lower: &[i64], upper: &[i64], step: u64) -> Turns
 {
     let first = greatest(lower);
     Turns {
-        first: wrap(Width::W64, i128::from(first)),
+        first: index_word(first),
         step,
         count: count(first, least(upper), step),
     }

@@ -13,13 +13,13 @@ ghost use Rattle.av_scalar.specs.Meeting.{EndsAt, Stops};
 ghost use Rattle.av_scalar.specs.Names.{values};
 ghost use Rattle.av_scalar.specs.Stores.{AreSmall, memory_of, sizes_of};
 
-use super::bounds::{Choice, chosen};
+use super::bounds::{Choice, chosen_word};
 use super::machine::Outcome;
 use super::maps::{behind, evaluate, indices};
 use super::memory::Standing;
 use super::words::word_at;
 use av_affine::{AffMap, No, Seq};
-use av_bits::{DivideTrap, Width, signed, wrap};
+use av_bits::DivideTrap;
 use av_ir::{Buffer, RunStop, TrapKind};
 use std::alloc::Global;
 
@@ -74,8 +74,7 @@ pub fn give_mapped(
         (Stops (mapped (choice_of choice) number (evaluated map.now (values operands.now)) memory) budget) }
 {
     let results = evaluate(alloc, number, map, operands)?;
-    let index = chosen(choice, results.as_slice());
-    Ok(Outcome::one(alloc, wrap(Width::W64, i128::from(index)))?)
+    Ok(Outcome::one(alloc, chosen_word(choice, results.as_slice()))?)
 }
 
 // The load of the element at subscripts.
@@ -244,8 +243,7 @@ pub fn size(
         (λ o. EndsAt (size_given number (size_at (buffer_of (memory_of standing.now memory.now.items) (word_at (values operands.now) 0)).sizes (index_at (values operands.now) 1)) (memory_of standing.now memory.now.items)) budget (given_with o (memory_of standing.now memory.now.items)) budget)
         (Stops (size_given number (size_at (buffer_of (memory_of standing.now memory.now.items) (word_at (values operands.now) 0)).sizes (index_at (values operands.now) 1)) (memory_of standing.now memory.now.items)) budget) }
 {
-    let dimension = signed(Width::W64, word_at(operands, 1));
-    match standing.size(memory, word_at(operands, 0), dimension) {
+    match standing.size(memory, word_at(operands, 0), word_at(operands, 1)) {
         Some(size) => Ok(Outcome::one(alloc, size)?),
         None => Err(RunStop::Trap(TrapKind::OutOfBounds, number)),
     }

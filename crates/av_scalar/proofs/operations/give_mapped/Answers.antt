@@ -17,4 +17,4 @@ pub returns : goal.returns
 returns c = λ memory budget.
     rw c.in_ok-one.ensures
     (mapped_gives (choice_of c.args.choice) c.args.number (evaluated c.args.map.now (values c.args.operands.now)) memory c.in_ok-results.results.items c.in_ok-results.ensures.value
-    c.wrap.result (c.wrap.ensures.value ∙ ap (pattern_of 64) (c.chosen-index.ensures ∙ ap (choice_of c.args.choice) c.as_slice.ensures)) budget)
+    c.chosen_word.result (c.chosen_word.ensures ∙ ap (λ zs. pattern_of 64 (choice_of c.args.choice zs)) c.as_slice.ensures) budget)

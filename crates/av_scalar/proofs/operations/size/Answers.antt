@@ -10,9 +10,9 @@ pub returns-in_ok-one-in-Some : goal.returns-in_ok-one-in-Some
 returns-in_ok-one-in-Some c = λ budget.
     rw c.in_ok-one-in-Some.ensures
     (sizes_give c.args.number (size_at (buffer_of (memory_of c.args.standing.now c.args.memory.now.items) (word_at (values c.args.operands.now) 0)).sizes (index_at (values c.args.operands.now) 1)) (memory_of c.args.standing.now c.args.memory.now.items) c.in-Some.size
-    (sym c.in-Some.is ∙ c.size.ensures ∙ size_asked (memory_of c.args.standing.now c.args.memory.now.items) c.args.operands.now c.word_at-2.result c.word_at.result c.signed-dimension.result c.word_at-2.ensures c.word_at.ensures c.signed-dimension.ensures) budget)
+    (sym c.in-Some.is ∙ c.size.ensures ∙ size_asked (memory_of c.args.standing.now c.args.memory.now.items) c.args.operands.now c.word_at.result c.word_at-2.result c.word_at.ensures c.word_at-2.ensures) budget)
 
 pub returns-in-None : goal.returns-in-None
 returns-in-None c =
     sizes_stop c.args.number (size_at (buffer_of (memory_of c.args.standing.now c.args.memory.now.items) (word_at (values c.args.operands.now) 0)).sizes (index_at (values c.args.operands.now) 1)) (memory_of c.args.standing.now c.args.memory.now.items)
-    (sym c.in-None.is ∙ c.size.ensures ∙ size_asked (memory_of c.args.standing.now c.args.memory.now.items) c.args.operands.now c.word_at-2.result c.word_at.result c.signed-dimension.result c.word_at-2.ensures c.word_at.ensures c.signed-dimension.ensures)
+    (sym c.in-None.is ∙ c.size.ensures ∙ size_asked (memory_of c.args.standing.now c.args.memory.now.items) c.args.operands.now c.word_at.result c.word_at-2.result c.word_at.ensures c.word_at-2.ensures)
