@@ -1,4 +1,9 @@
+pub mod Distinct
+pub mod Examples
 pub mod Made
-pub mod Normal
+pub mod NormalisedVariants
+pub mod Normalising
+pub mod Numbered
+pub mod Renamed
 pub mod Spelt
 pub mod Steps

@@ -8,8 +8,9 @@ use Rattle.av_affine.specs.declared.linear.Term.{Term}
 use Rattle.av_affine.specs.declared.linear.Linear.{Row_of-Opaque, end_of-Opaque, more_of-Opaque, items-the_row-Opaque, items_hidden-the_row-Opaque-0, roll-Linear, rolls-Linear', out-Linear, out-roll-Linear}
 use Rattle.av_affine.specs.declared.linear.Linear.TheBlock.{hidden-the_row-Opaque-0}
 use Rattle.av_affine.specs.declared.linear.Opaque.{Opaque, Opaque'}
-use Rattle.av_affine.specs.Forms.{divide, Parts, constant_parts, joined, scaled, product_by, division_of, parts_of}
-use Rattle.av_forms.proofs.Normal.{Before, Sorted, Alone, Apart, Varies, Normal, NormalOpaque, NormalRow, NormalOpaques, NormalParts}
+use Rattle.av_affine.specs.Forms.{divide, Parts, constant_parts, joined, scaled, product_by, division_of, parts_of, linear_form}
+use Rattle.av_forms.specs.FormLaws.{NormalFormLaw}
+use Rattle.av_forms.specs.Normal.{Before, Sorted, Alone, Apart, Varies, Normal, NormalOpaque, NormalRow, NormalOpaques, NormalParts}
 use Rattle.av_forms.proofs.Steps.{add_terms-sorted, scale_terms-sorted, add_opaques-apart, add_opaques-normal, scale_opaques-apart, scale_opaques-normal}
 
 -- ---- a form and its parts
@@ -75,3 +76,7 @@ normal-parts (Floor' s (more_of-Expr a end_of-Expr) t (more_of-Expr b end_of-Exp
     division-normal (parts_of a).terms (parts_of a).opaque Floor (parts_of a) (parts_of b).constant refl refl (normal-parts a)
 normal-parts (Ceil' s (more_of-Expr a end_of-Expr) t (more_of-Expr b end_of-Expr)) =
     division-normal (parts_of a).terms (parts_of a).opaque Ceil (parts_of a) (parts_of b).constant refl refl (normal-parts a)
+
+pub normal-form-law : NormalFormLaw
+unfolding linear_form
+normal-form-law e = roll-normal (parts_of e) (normal-parts e)

@@ -19,7 +19,7 @@ use Rattle.av_affine.specs.declared.linear.Opaque.{Opaque, Opaque'}
 use Rattle.av_affine.specs.Forms.{Parts, constant_parts, joined, scaled, product_by, division_of, term_unless_zero, opaque_unless_zero, add_term, add_opaque, add_terms, add_opaques, scale_terms, scale_opaques, parts_of, linear_form}
 use Rattle.av_affine.specs.Spelling.{times, plus, division, plus_terms, plus_constant, plus_row, spelled, spelled_opaque}
 use Rattle.av_forms.specs.FormLaws.{SpellingFormLaw}
-use Rattle.av_forms.proofs.Normal.{Sorted, Apart, Varies, Normal, NormalOpaque, NormalRow}
+use Rattle.av_forms.specs.Normal.{Sorted, Apart, Varies, Normal, NormalOpaque, NormalRow}
 use Rattle.av_forms.proofs.Steps.{choose, add_term-last, add_opaque-last}
 use Rattle.av_forms.proofs.Made.{roll-normal, normal-parts}
 

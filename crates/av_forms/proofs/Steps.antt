@@ -8,7 +8,7 @@ use Rattle.av_affine.specs.declared.expression.Leaf.TheVariants.{Dim, Sym}
 use Rattle.av_affine.specs.declared.linear.Term.{Term}
 use Rattle.av_affine.specs.declared.linear.Opaque.{Opaque, Opaque'}
 use Rattle.av_affine.specs.Forms.{same_leaf, same_division, is_before, term_unless_zero, opaque_unless_zero, factor_of, add_term, add_opaque, add_terms, add_opaques, scale_terms, scale_opaques}
-use Rattle.av_forms.proofs.Normal.{Before, Sorted, Alone, Apart, NormalOpaque, NormalOpaques, with_factor}
+use Rattle.av_forms.specs.Normal.{Before, Sorted, Alone, Apart, NormalOpaque, NormalOpaques, with_factor}
 
 -- either side of a choice, by its test
 pub choose : {A : Type 0} (P : A → Type 0) (b : Bool) (x y : A) → (b ≡ true → P x) → (b ≡ false → P y) → P (cond b x y)

@@ -1,1 +1,4 @@
+pub mod Normal
 pub mod FormLaws
+pub mod Normalised
+pub mod NormalisedLaws

@@ -1,6 +1,6 @@
 -- What a call of a source or a sink does to its count of faults and to its room.
 -- What it does to the bytes that are told is said in std's words for readers and writers.
-use Rattle.std.specs.Prelude.{◌≡◌, ℕ, ◌+◌, ◌-◌, ◌^◌, ◌≤◌, min, List, length, Option, Result, is_err, OnOk, OnErr, MatchResult, option_map, if◌then◌else◌}
+use Rattle.std.specs.Prelude.{◌≡◌, ℕ, ◌+◌, ◌-◌, ◌^◌, ◌≤◌, min, List, length, Option, None, Some, Result, is_err, OnOk, OnErr, MatchResult, option_map, if◌then◌else◌}
 use Rattle.std.specs.Io.KnownBytes.{Appends}
 use Rattle.std.specs.Option.{ForSome}
 
@@ -21,6 +21,17 @@ pub record HasCause {T E : Type 0} (before now : ℕ) (result : Result T E) : Ty
 -- a count of faults after a call: one higher where the call failed
 abbrev pub faults_after : {T E : Type 0} → Result T E → ℕ → ℕ
 faults_after result before = if is_err result then counted before else before
+
+-- where a source tells what is left, at most one read more was made than bytes were taken
+abbrev pub AtMostOneIdle : Option (List ℕ) → Option (List ℕ) → ℕ → ℕ → Type 0
+AtMostOneIdle (Some xs) (Some ys) calls calls' = calls' + length ys ≤ calls + length xs + 1
+AtMostOneIdle (Some xs) None calls calls' = ⊥
+AtMostOneIdle None left' calls calls' = Unit {0}
+
+-- at most so many reads were made, and at most one more than bytes were taken
+pub record ReadsFew (most : ℕ) (left left' : Option (List ℕ)) (calls calls' : ℕ) : Type 0 where
+  pub few : calls' ≤ calls + most
+  pub idle : AtMostOneIdle left left' calls calls'
 
 -- where the room is told, it is for at least n bytes
 abbrev pub HasRoom : Option ℕ → ℕ → Type 0

@@ -10,3 +10,7 @@ bytes_left source = unread source.feed
 -- the greatest number of bytes of one call
 abbrev pub most_bytes : PlainSource → ℕ
 most_bytes source = source.feed.most
+
+-- how many reads were made; it stands still at 2 ^ 64 - 1
+abbrev pub calls_made : PlainSource → ℕ
+calls_made source = source.made.number

@@ -2,7 +2,7 @@
 ghost use Rattle.std.specs.Prelude.{◌≡◌, ℕ, ◌-◌, ◌^◌, ◌<◌, ◌≤◌, List, length, Option, IfOk, OnOk, OnErr, is_some};
 ghost use Rattle.std.specs.Io.{ReadsAtMost, WritesAtMost};
 ghost use Rattle.std.specs.Io.KnownBytes.{ReadConsumes, WriteAppends};
-ghost use Rattle.av_io.specs.Devices.{HasCause, HasRoom, WriteUsesRoom};
+ghost use Rattle.av_io.specs.Devices.{HasCause, HasRoom, WriteUsesRoom, counted};
 
 use std::alloc::AllocError;
 
@@ -15,6 +15,9 @@ pub trait Source {
     // The bytes still to come, where the source tells them.
     ghost left: { Self → Option (List ℕ) };
 
+    // How many reads were made. It stands still at 2 ^ 64 - 1.
+    ghost calls: { Self → ℕ };
+
     // How many calls have failed. It stands still at 2 ^ 64 - 1.
     ghost faults: { Self → ℕ };
 
@@ -26,6 +29,7 @@ pub trait Source {
         // The bytes read are the first of those left, and are gone; a failed read takes none.
         ensures bytes { ReadConsumes (left self.old) (left self.new) result into.new }
         ensures told { is_some (left self.new) ≡ is_some (left self.old) }
+        ensures calls { calls self.new ≡ counted (calls self.old) }
         ensures cause { HasCause (faults self.old) (faults self.new) result };
 
     ghost count_fits: { (source : Self) → faults source ≤ 2 ^ 64 - 1 };

@@ -38,6 +38,8 @@ impl MemSource {
 impl Source for MemSource {
     ghost left = { λ source. Some (bytes_left source) };
 
+    ghost calls = { calls_made };
+
     ghost faults = { fault_count };
 
     ghost count_fits = { λ source. source.calls.faults.fits };

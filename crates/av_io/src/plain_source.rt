@@ -3,9 +3,10 @@ ghost use Rattle.std.specs.Prelude.{◌≡◌, ◌<◌, ◌≤◌, ◌-◌, Some
 ghost use Rattle.std.specs.Io.{ReadsAtMost};
 ghost use Rattle.std.specs.Io.KnownBytes.{ReadConsumes};
 ghost use Rattle.std.proofs.Common.{lit≤};
-ghost use Rattle.av_io.specs.Devices.{HasCause};
-ghost use Rattle.av_io.specs.PlainSource.{bytes_left, most_bytes};
+ghost use Rattle.av_io.specs.Devices.{HasCause, counted};
+ghost use Rattle.av_io.specs.PlainSource.{bytes_left, most_bytes, calls_made};
 
+use crate::count::Count;
 use crate::device::{Failed, Source};
 use crate::feed::Feed;
 
@@ -13,6 +14,7 @@ use crate::feed::Feed;
 #[derive(Debug, Drop)]
 pub struct PlainSource {
     feed: Feed,
+    made: Count,
 }
 
 impl PlainSource {
@@ -21,15 +23,19 @@ impl PlainSource {
         requires { 0 < most }
         ensures left { bytes_left result ≡ bytes.items }
         ensures most { most_bytes result ≡ most }
+        ensures calls { calls_made result ≡ 0 }
     {
         PlainSource {
             feed: Feed::new(bytes, most),
+            made: Count::new(),
         }
     }
 }
 
 impl Source for PlainSource {
     ghost left = { λ source. Some (bytes_left source) };
+
+    ghost calls = { calls_made };
 
     ghost faults = { λ _. 0 };
 
@@ -44,8 +50,10 @@ impl Source for PlainSource {
         ensures never_fails { IsOk result }
         ensures count { result ≡
             Ok (min (most_bytes self.old) (min (length into.old) (length (bytes_left self.old)))) }
+        ensures calls { calls_made self.new ≡ counted (calls_made self.old) }
         ensures most { most_bytes self.new ≡ most_bytes self.old }
     {
+        self.made.raise();
         Ok(self.feed.read(into))
     }
 }

@@ -1,7 +1,7 @@
 //! Reads and writes that go on until all is done.
 ghost use Rattle.std.specs.Prelude.{◌≡◌, ℕ, ◌<◌, ◌≤◌, ◌-◌, List, length, take, is_some, OnOk, OnErr, IfOk};
 ghost use Rattle.std.specs.Io.KnownBytes.{Appends, Consumes, IsAtEnd};
-ghost use Rattle.av_io.specs.Devices.{HasCause, HasRoom, Takes};
+ghost use Rattle.av_io.specs.Devices.{HasCause, HasRoom, ReadsFew, Takes};
 
 use crate::device::{Failed, Sink, Source};
 
@@ -35,6 +35,9 @@ pub fn read_full<I: Source>(from: &mut I, into: &mut [u8]) -> Result<usize, Fail
     ensures lost { OnErr result
         ((bytes : List ℕ) × (length bytes ≤ length into.new) × Consumes (I.left from.old) (I.left from.new) bytes) }
     ensures told { is_some (I.left from.new) ≡ is_some (I.left from.old) }
+    // At most one read more than bytes were taken: where each takes one byte at most, none follows
+    // the end, or a fault that lasts.
+    ensures few { ReadsFew (length into.new) (I.left from.old) (I.left from.new) (I.calls from.old) (I.calls from.new) }
     ensures cause { HasCause (I.faults from.old) (I.faults from.new) result }
 {
     let mut done = 0;

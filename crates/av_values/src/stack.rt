@@ -122,7 +122,7 @@ impl Stack {
     {
         match self.pop()? {
             Value::Text(value) => Ok(value),
-            _ => Err(Fault::Misshapen),
+            other => Err(refused(other)),
         }
     }
 
@@ -142,7 +142,7 @@ impl Stack {
     {
         match self.pop()? {
             Value::Texts(value) => Ok(value),
-            _ => Err(Fault::Misshapen),
+            other => Err(refused(other)),
         }
     }
 
@@ -162,7 +162,7 @@ impl Stack {
     {
         match self.pop()? {
             Value::Parameters(value) => Ok(value.into_inner()),
-            _ => Err(Fault::Misshapen),
+            other => Err(refused(other)),
         }
     }
 
@@ -182,7 +182,7 @@ impl Stack {
     {
         match self.pop()? {
             Value::Number(value) => Ok(value),
-            _ => Err(Fault::Misshapen),
+            other => Err(refused(other)),
         }
     }
 
@@ -202,7 +202,7 @@ impl Stack {
     {
         match self.pop()? {
             Value::Type(value) => Ok(value.into_inner()),
-            _ => Err(Fault::Misshapen),
+            other => Err(refused(other)),
         }
     }
 
@@ -222,7 +222,7 @@ impl Stack {
     {
         match self.pop()? {
             Value::Types(value) => Ok(value),
-            _ => Err(Fault::Misshapen),
+            other => Err(refused(other)),
         }
     }
 
@@ -242,7 +242,7 @@ impl Stack {
     {
         match self.pop()? {
             Value::Sizes(value) => Ok(value),
-            _ => Err(Fault::Misshapen),
+            other => Err(refused(other)),
         }
     }
 
@@ -262,7 +262,7 @@ impl Stack {
     {
         match self.pop()? {
             Value::Layout(value) => Ok(value.into_inner()),
-            _ => Err(Fault::Misshapen),
+            other => Err(refused(other)),
         }
     }
 
@@ -282,7 +282,7 @@ impl Stack {
     {
         match self.pop()? {
             Value::Constant(value) => Ok(value.into_inner()),
-            _ => Err(Fault::Misshapen),
+            other => Err(refused(other)),
         }
     }
 
@@ -302,7 +302,7 @@ impl Stack {
     {
         match self.pop()? {
             Value::Attr(value) => Ok(value.into_inner()),
-            _ => Err(Fault::Misshapen),
+            other => Err(refused(other)),
         }
     }
 
@@ -322,7 +322,7 @@ impl Stack {
     {
         match self.pop()? {
             Value::Entry(value) => Ok(value.into_inner()),
-            _ => Err(Fault::Misshapen),
+            other => Err(refused(other)),
         }
     }
 
@@ -342,7 +342,7 @@ impl Stack {
     {
         match self.pop()? {
             Value::Entries(value) => Ok(value),
-            _ => Err(Fault::Misshapen),
+            other => Err(refused(other)),
         }
     }
 
@@ -362,7 +362,7 @@ impl Stack {
     {
         match self.pop()? {
             Value::MapUse(value) => Ok(value.into_inner()),
-            _ => Err(Fault::Misshapen),
+            other => Err(refused(other)),
         }
     }
 
@@ -382,7 +382,7 @@ impl Stack {
     {
         match self.pop()? {
             Value::Carried(value) => Ok(value.into_inner()),
-            _ => Err(Fault::Misshapen),
+            other => Err(refused(other)),
         }
     }
 
@@ -402,7 +402,7 @@ impl Stack {
     {
         match self.pop()? {
             Value::Expression(value) => Ok(value.into_inner()),
-            _ => Err(Fault::Misshapen),
+            other => Err(refused(other)),
         }
     }
 
@@ -422,7 +422,7 @@ impl Stack {
     {
         match self.pop()? {
             Value::Expressions(value) => Ok(value),
-            _ => Err(Fault::Misshapen),
+            other => Err(refused(other)),
         }
     }
 
@@ -442,7 +442,7 @@ impl Stack {
     {
         match self.pop()? {
             Value::Parts(value) => Ok(value),
-            _ => Err(Fault::Misshapen),
+            other => Err(refused(other)),
         }
     }
 
@@ -462,7 +462,7 @@ impl Stack {
     {
         match self.pop()? {
             Value::Node(value) => Ok(value.into_inner()),
-            _ => Err(Fault::Misshapen),
+            other => Err(refused(other)),
         }
     }
 
@@ -482,7 +482,7 @@ impl Stack {
     {
         match self.pop()? {
             Value::Nodes(value) => Ok(value),
-            _ => Err(Fault::Misshapen),
+            other => Err(refused(other)),
         }
     }
 
@@ -502,7 +502,7 @@ impl Stack {
     {
         match self.pop()? {
             Value::Onward(value) => Ok(value.into_inner()),
-            _ => Err(Fault::Misshapen),
+            other => Err(refused(other)),
         }
     }
 
@@ -522,7 +522,7 @@ impl Stack {
     {
         match self.pop()? {
             Value::Terminated(value) => Ok(value.into_inner()),
-            _ => Err(Fault::Misshapen),
+            other => Err(refused(other)),
         }
     }
 
@@ -542,7 +542,7 @@ impl Stack {
     {
         match self.pop()? {
             Value::Tree(value) => Ok(value.into_inner()),
-            _ => Err(Fault::Misshapen),
+            other => Err(refused(other)),
         }
     }
 
@@ -553,7 +553,7 @@ impl Stack {
     {
         let tree = self.tree()?;
         match self.pop() {
-            Ok(_) => Err(Fault::Misshapen),
+            Ok(value) => Err(refused(value)),
             Err(_) => Ok(tree),
         }
     }
@@ -574,7 +574,7 @@ impl Stack {
     {
         match self.pop()? {
             Value::Arg(value) => Ok(value.into_inner()),
-            _ => Err(Fault::Misshapen),
+            other => Err(refused(other)),
         }
     }
 
@@ -594,7 +594,7 @@ impl Stack {
     {
         match self.pop()? {
             Value::Args(value) => Ok(value),
-            _ => Err(Fault::Misshapen),
+            other => Err(refused(other)),
         }
     }
 
@@ -614,7 +614,7 @@ impl Stack {
     {
         match self.pop()? {
             Value::TypedValues(value) => Ok(value.into_inner()),
-            _ => Err(Fault::Misshapen),
+            other => Err(refused(other)),
         }
     }
 
@@ -634,7 +634,7 @@ impl Stack {
     {
         match self.pop()? {
             Value::Aliases(value) => Ok(value),
-            _ => Err(Fault::Misshapen),
+            other => Err(refused(other)),
         }
     }
 
@@ -654,7 +654,7 @@ impl Stack {
     {
         match self.pop()? {
             Value::Generic(value) => Ok(value.into_inner()),
-            _ => Err(Fault::Misshapen),
+            other => Err(refused(other)),
         }
     }
 
@@ -674,7 +674,7 @@ impl Stack {
     {
         match self.pop()? {
             Value::Body(value) => Ok(value.into_inner()),
-            _ => Err(Fault::Misshapen),
+            other => Err(refused(other)),
         }
     }
 
@@ -694,7 +694,7 @@ impl Stack {
     {
         match self.pop()? {
             Value::Bodies(value) => Ok(value),
-            _ => Err(Fault::Misshapen),
+            other => Err(refused(other)),
         }
     }
 
@@ -714,7 +714,7 @@ impl Stack {
     {
         match self.pop()? {
             Value::Attrs(value) => Ok(value),
-            _ => Err(Fault::Misshapen),
+            other => Err(refused(other)),
         }
     }
 
@@ -734,7 +734,7 @@ impl Stack {
     {
         match self.pop()? {
             Value::Words(value) => Ok(value.into_inner()),
-            _ => Err(Fault::Misshapen),
+            other => Err(refused(other)),
         }
     }
 
@@ -754,7 +754,7 @@ impl Stack {
     {
         match self.pop()? {
             Value::Numbers(value) => Ok(value),
-            _ => Err(Fault::Misshapen),
+            other => Err(refused(other)),
         }
     }
 
@@ -774,7 +774,7 @@ impl Stack {
     {
         match self.pop()? {
             Value::Element(value) => Ok(value.into_inner()),
-            _ => Err(Fault::Misshapen),
+            other => Err(refused(other)),
         }
     }
 
@@ -794,7 +794,7 @@ impl Stack {
     {
         match self.pop()? {
             Value::Elements(value) => Ok(value),
-            _ => Err(Fault::Misshapen),
+            other => Err(refused(other)),
         }
     }
 
@@ -814,7 +814,7 @@ impl Stack {
     {
         match self.pop()? {
             Value::Dense(value) => Ok(value.into_inner()),
-            _ => Err(Fault::Misshapen),
+            other => Err(refused(other)),
         }
     }
 
@@ -834,7 +834,7 @@ impl Stack {
     {
         match self.pop()? {
             Value::Dims(value) => Ok(value),
-            _ => Err(Fault::Misshapen),
+            other => Err(refused(other)),
         }
     }
 
@@ -854,7 +854,7 @@ impl Stack {
     {
         match self.pop()? {
             Value::Size(value) => Ok(value),
-            _ => Err(Fault::Misshapen),
+            other => Err(refused(other)),
         }
     }
 
@@ -874,7 +874,7 @@ impl Stack {
     {
         match self.pop()? {
             Value::Row(value) => Ok(value.into_inner()),
-            _ => Err(Fault::Misshapen),
+            other => Err(refused(other)),
         }
     }
 
@@ -894,7 +894,7 @@ impl Stack {
     {
         match self.pop()? {
             Value::Rows(value) => Ok(value),
-            _ => Err(Fault::Misshapen),
+            other => Err(refused(other)),
         }
     }
 
@@ -914,7 +914,7 @@ impl Stack {
     {
         match self.pop()? {
             Value::Equal(value) => Ok(value),
-            _ => Err(Fault::Misshapen),
+            other => Err(refused(other)),
         }
     }
 
@@ -934,7 +934,7 @@ impl Stack {
     {
         match self.pop()? {
             Value::Selected(value) => Ok(value.into_inner()),
-            _ => Err(Fault::Misshapen),
+            other => Err(refused(other)),
         }
     }
 
@@ -954,9 +954,18 @@ impl Stack {
     {
         match self.pop()? {
             Value::OptionalType(value) => Ok(value.into_inner()),
-            _ => Err(Fault::Misshapen),
+            other => Err(refused(other)),
         }
     }
+}
+
+// Drops a value of another sort than is wanted. A call that drops it as a whole is proved far sooner than
+// an arm that drops what each of its variants holds.
+fn refused(value: Value) -> Fault
+    ensures { result ≡ Fault.Misshapen }
+{
+    drop(value);
+    Fault::Misshapen
 }
 
 /// A list in the order of the text.

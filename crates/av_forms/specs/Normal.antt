@@ -1,6 +1,5 @@
 -- Normal forms: in order, without zeros, and without two terms that could be one.
-use Rattle.std.proofs.Common.{◌≡◌, List, [], ◌∷◌, true, false}
-use Rattle.std.specs.Prelude.{ℤ, pos}
+use Rattle.std.specs.Prelude.{◌≡◌, ℤ, pos, List, [], ◌∷◌, true, false}
 use Rattle.std.specs.Ordering.{int_eq}
 use Rattle.av_affine.specs.declared.expression.Leaf.{Leaf}
 use Rattle.av_affine.specs.declared.linear.Term.{Term}
@@ -15,7 +14,7 @@ unfoldable pub Before : Leaf → List Term → Type 0
 Before leaf [] = Unit {0}
 Before leaf (t ∷ ts) = (is_before leaf t.leaf ≡ true) × Before leaf ts
 
--- in order, and no factor is zero
+-- in order of their leaves, so no two of one leaf, and no factor is zero
 unfoldable pub Sorted : List Term → Type 0
 Sorted [] = Unit {0}
 Sorted (t ∷ ts) = (int_eq t.factor (pos 0) ≡ false) × Before t.leaf ts × Sorted ts
