@@ -9,6 +9,7 @@ mod bits;
 mod built;
 mod call;
 mod expressions;
+mod forming;
 mod places;
 mod runs;
 mod shapes;

@@ -3,13 +3,14 @@ ghost use Rattle.std.specs.Prelude.{◌<◌, IsTrue, length};
 ghost use Rattle.std.specs.List.{All};
 
 use crate::arguments::{buffers, push_word, shown_bound, shown_end};
+use crate::forming::is_well_formed;
 use crate::words::magnitudes;
 use av_affine::Seq;
 use av_cases::Why;
 use av_ir::{Args, Bound, Module, RunStop, bind, ended, fits, inner_loops};
 use av_lex::lex;
 use av_reader::read;
-use av_scalar::{is_runnable, run_scalar};
+use av_scalar::run_scalar;
 use av_verify::{Mode, verify};
 use std::alloc::Global;
 
@@ -36,7 +37,7 @@ pub fn run_case(alloc: Global, module: &Module, args: Args, steps: u64) -> Resul
         return Err(Why::BadValue);
     }
     let func = &module.funcs.as_slice()[0];
-    if !fits(func, &args) || !is_runnable(func) {
+    if !fits(func, &args) || !is_well_formed(module) {
         return Err(Why::BadValue);
     }
     match run_scalar(alloc, module, 0, args, steps) {

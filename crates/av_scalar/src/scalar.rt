@@ -6,9 +6,9 @@ ghost use Rattle.av_ir.specs.declared.module.Region.{out-Region};
 ghost use Rattle.av_ir.specs.Run.{types_at};
 ghost use Rattle.av_ir.specs.ScalarRun.{argument_values, memref_types, run_scalar_of};
 ghost use Rattle.av_ir.specs.Values.{Fits};
+ghost use Rattle.av_ir.specs.WellFormed.{IsWellFormedFunc, WellFormed};
 ghost use Rattle.av_scalar.specs.Meeting.{Meets};
 ghost use Rattle.av_scalar.specs.Names.{values};
-ghost use Rattle.av_scalar.specs.Runnable.{IsRunnableFunc};
 
 use super::machine::Machine;
 use super::memory::Standing;
@@ -64,7 +64,7 @@ fn add_memref(alloc: Global, kinds: &mut Seq<Ty>, ty: &Ty) -> Result<(), AllocEr
 // The run of a function.
 fn run_func(alloc: Global, f: &Func, args: Args, steps: u64) -> Result<Ended, RunStop>
     requires fits { Fits f.now args }
-    requires runnable { IsRunnableFunc f.now }
+    requires formed { IsWellFormedFunc f.now }
     ensures { Meets (run_scalar_of f.now args) steps result }
 {
     let types = f.values.as_slice();
@@ -97,8 +97,8 @@ fn run_func(alloc: Global, f: &Func, args: Args, steps: u64) -> Result<Ended, Ru
     Ok(ended(alloc, end, results)?)
 }
 
-/// The run of the function in this place of a module of scalar operations, with these arguments and at
-/// most so many steps.
+/// The run of the function in this place of a module, one element at a time, with these arguments and
+/// at most so many steps. An operation that Scalar mode doesn't have gives nothing.
 ///
 /// # Errors
 ///
@@ -112,7 +112,7 @@ pub fn run_scalar(
 ) -> Result<Ended, RunStop>
     requires place { func < length m.now.funcs }
     requires fits { (d : Func) → Fits (slice_index_or m.now.funcs func d) args }
-    requires runnable { (d : Func) → IsRunnableFunc (slice_index_or m.now.funcs func d) }
+    requires formed { WellFormed m.now }
     ensures { (d : Func) → Meets (run_scalar_of (slice_index_or m.now.funcs func d) args) steps result }
 {
     run_func(alloc, &m.funcs.as_slice()[func as usize], args, steps)
