@@ -1,13 +1,11 @@
 -- The marks of loops are their numbers in order.
-use Rattle.std.proofs.Common.{◌≡◌, ap, sym, ◌∙◌, refl, subst, ℕ, ◌+◌, Bool, true, false, if◌then◌else◌, List, [], ◌∷◌, ◌++◌, append_assoc, length, length-append, map, arith}
-use Rattle.std.specs.Prelude.{Option, Some, None}
+use Rattle.std.proofs.Common.{◌≡◌, ap, sym, ◌∙◌, refl, subst, ℕ, ◌+◌, Bool, true, false, if◌then◌else◌, List, [], ◌∷◌, ◌++◌, length, length-append, map, arith}
+use Rattle.std.specs.Prelude.{Some, None}
 use Rattle.std.specs.List.{flat_map}
 use Rattle.std.proofs.lemmas.List.Folds.{flat_map-map}
-use Rattle.av_ir.specs.declared.module.Marks.{Marks}
-use Rattle.av_ir.specs.declared.module.Op.{Op, Op-F, roll-Op, out-roll-Op, fold-roll-Op, ind-Op}
+use Rattle.av_ir.specs.declared.module.Op.{Op, Op-F, roll-Op, out-roll-Op, fold-roll-Op}
 use Rattle.av_ir.specs.declared.module.Region.{Region, Region-F, roll-Region, out-roll-Region, fold-roll-Region, ind-Region}
 use Rattle.av_ir.specs.declared.module.Func.{Func}
-use Rattle.av_ir.specs.declared.marking.InnerLoop.{InnerLoop}
 use Rattle.av_ir.specs.Marks.{Made, Making, in_turn, is_loop, is_none, marks_of, own_loops, marked_op, marked_region, marked_func, op_flags, region_flags, inner_among, inner_from}
 use Rattle.av_ir.specs.Numbers.{Seen, has_none, see_op, see_region, seen_in_op, seen_in_region, inner_seen, inner_marks}
 use Rattle.av_ir.proofs.Flags.{op_flags-out, region_flags-out, with_inner}

@@ -15,7 +15,7 @@ use Rattle.av_ir.specs.declared.ty.Ty.TheVariants.{Scalar, MemRef}
 use Rattle.av_ir.specs.declared.run.TrapKind.TheVariants.{OutOfBounds, Divide, IndexRange}
 use Rattle.av_ir.specs.declared.module.OpKind.{OpKind}
 use Rattle.av_ir.specs.declared.module.OpKind.TheVariants.{ArithBinary, ArithCmpi, ArithSelect, ArithCast, AffineFor, AffineIf, AffineApply, AffineMin, AffineMax, AffineLoad, MemrefLoad, MemrefStore, MemrefDim}
-use Rattle.av_ir.specs.Run.{Value, word, Memory, Run, ends, traps, Given, Ending, Body, word_at, gives}
+use Rattle.av_ir.specs.Run.{Value, word, Memory, Run, ends, traps, Given, Body, word_at, gives}
 use Rattle.av_ir.specs.ScalarRun.{perform}
 
 -- a map of one constant, and one of two, without parameters

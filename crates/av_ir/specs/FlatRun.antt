@@ -1,6 +1,6 @@
 -- The flat run at a scale: that of one element at a time, and work on vectors lane by lane.
-use Rattle.std.specs.Prelude.{ℕ, ◌+◌, ◌-◌, ◌==◌, ℤ, pos, ◌+ℤ◌, int_lt, unsigned_abs, Bool, if◌then◌else◌, List, [], ◌∷◌, ◌++◌, map, length, take, drop, replicate, fold, slice_index_or, slice_set, Option, Some, None}
-use Rattle.std.specs.List.{list_all, range_with_len}
+use Rattle.std.specs.Prelude.{ℕ, ◌+◌, ◌-◌, ◌==◌, ℤ, pos, ◌+ℤ◌, int_lt, unsigned_abs, if◌then◌else◌, List, [], ◌∷◌, ◌++◌, map, length, take, drop, replicate, fold, slice_index_or, slice_set, Option, Some, None}
+use Rattle.std.specs.List.{range_with_len}
 use Rattle.av_shapes.specs.Places.{lanes as lanes_of}
 use Rattle.av_bits.specs.declared.types.Width.{Width}
 use Rattle.av_bits.specs.declared.types.Kind9.{Kind9}
@@ -20,7 +20,7 @@ use Rattle.av_ir.specs.declared.module.Func.{Func}
 use Rattle.av_ir.specs.Run.{Value, word, lanes, word_of, word_at, Memory, Run, traps, Given, Body, gives, hands}
 use Rattle.av_ir.specs.Elements.{element_width, first_width, low, bit_of, binary_element, compare_element, select_element, cast_element, Form, one, many, form_of, lane_of, elementwise}
 use Rattle.av_ir.specs.ScalarRun.{constant_of, index_at, subscripts, first_body, perform_loop, perform, run_func_by}
-use Rattle.av_ir.specs.Lanes.{Lane, lane_at, lanes_loaded, lanes_stored}
+use Rattle.av_ir.specs.Lanes.{lane_at, lanes_loaded, lanes_stored}
 
 -- ---- vectors
 -- the number of lanes of a type; a scalar has one

@@ -1,9 +1,9 @@
 -- Loads and stores lane by lane, and the places that they touch.
-use Rattle.std.specs.Prelude.{ℕ, ℤ, Bool, if◌then◌else◌, is_some, List, [], ◌∷◌, map, slice_index_or, Option, Some, None}
+use Rattle.std.specs.Prelude.{ℕ, ℤ, if◌then◌else◌, is_some, List, [], ◌∷◌, map, slice_index_or, Option, Some, None}
 use Rattle.std.specs.List.{list_all, range_with_len}
 use Rattle.av_ir.specs.declared.run.TrapKind.TheVariants.{OutOfBounds}
 use Rattle.av_ir.specs.Memory.{buffer_at}
-use Rattle.av_ir.specs.Run.{Value, lanes, Memory, Run, traps, Given, gives}
+use Rattle.av_ir.specs.Run.{lanes, Memory, Run, traps, Given, gives}
 use Rattle.av_ir.specs.ScalarRun.{Place, element_at, place_in, with_pattern}
 
 -- what a lane of a memory operation touches: nothing where it is off; else a place, and none outside its buffer

@@ -1,5 +1,5 @@
 -- The inner loops of a module by the marks of its loops.
-use Rattle.std.specs.Prelude.{◌≡◌, ℕ, ◌+◌, Bool, true, false, if◌then◌else◌, List, [], ◌∷◌, ◌++◌, map, Option, Some, None}
+use Rattle.std.specs.Prelude.{◌≡◌, ℕ, ◌+◌, Bool, true, false, if◌then◌else◌, List, [], ◌∷◌, ◌++◌, Option, Some, None}
 use Rattle.std.specs.List.{flat_map}
 use Rattle.av_ir.specs.declared.module.Op.{Op, Op-F, fold-Op}
 use Rattle.av_ir.specs.declared.module.Region.{Region, Region-F, fold-Region}

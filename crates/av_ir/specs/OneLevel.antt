@@ -1,9 +1,9 @@
 -- The run of one operation, one region, and the operations of a region in order, in terms of their parts.
-use Rattle.std.specs.Prelude.{◌≡◌, List, [], ◌∷◌, map}
+use Rattle.std.specs.Prelude.{◌≡◌, List, [], map}
 use Rattle.av_ir.specs.declared.ty.Ty.{Ty}
 use Rattle.av_ir.specs.declared.module.Op.{Op, out-Op}
 use Rattle.av_ir.specs.declared.module.Region.{Region, out-Region}
-use Rattle.av_ir.specs.Run.{Value, Memory, Run, ends, after, followed, Given, Ending, Env, State, Perform, bind_values, values_at, types_at, handed_on, run_acts, run_op, run_region}
+use Rattle.av_ir.specs.Run.{Value, Memory, Run, ends, after, followed, Given, Env, State, Perform, bind_values, values_at, types_at, handed_on, run_acts, run_op, run_region}
 
 -- behind an operation its results are bound, and what it hands on is kept
 abbrev pub behind : Env → Op → List Value → Given → Run State

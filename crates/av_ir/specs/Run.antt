@@ -1,8 +1,8 @@
 -- How a run of operations goes: what a value is, how a run ends, and the walk over operations and regions.
-use Rattle.std.specs.Prelude.{ℕ, ◌+◌, ◌==◌, if◌then◌else◌, List, [], ◌∷◌, map, slice_index_or, Option, Some, None, unwrap_or}
+use Rattle.std.specs.Prelude.{ℕ, ◌+◌, ◌==◌, if◌then◌else◌, List, [], ◌∷◌, map, slice_index_or, Option, Some, None}
 use Rattle.av_ir.specs.declared.ty.Elem.TheVariants.{Index}
 use Rattle.av_ir.specs.declared.ty.Ty.{Ty}
-use Rattle.av_ir.specs.declared.ty.Ty.TheVariants.{Scalar, MemRef, Vector}
+use Rattle.av_ir.specs.declared.ty.Ty.TheVariants.{Scalar}
 use Rattle.av_ir.specs.declared.run.Buffer.{Buffer}
 use Rattle.av_ir.specs.declared.run.TrapKind.{TrapKind}
 use Rattle.av_ir.specs.declared.module.ValueId.{ValueId}

@@ -2,7 +2,6 @@
 use Rattle.std.proofs.Common.{◌≡◌, ◌∙◌, ℕ, List, [], ◌∷◌, map, refl, sym, ap, subst}
 use Rattle.std.specs.List.{All, AllZip}
 use Rattle.std.proofs.lemmas.List.Elements.{All-head, All-tail}
-use Rattle.av_ir.specs.declared.run.Args.{Args}
 use Rattle.av_ir.specs.declared.types.Ended.{Ended}
 use Rattle.av_ir.specs.declared.module.Op.{Op}
 use Rattle.av_ir.specs.declared.module.Region.{Region, Region-F, out-Region, roll-out-Region, out-roll-Region}

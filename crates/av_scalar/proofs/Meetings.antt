@@ -1,5 +1,5 @@
 -- How parts of a run, one after the other, meet the whole.
-use Rattle.std.proofs.Common.{◌≡◌, ℕ, ◌+◌, ◌<◌, ◌≤◌, arith, sym, ap, ◌∙◌, refl, subst}
+use Rattle.std.proofs.Common.{◌≡◌, ℕ, ◌+◌, ◌<◌, arith, sym, subst}
 use Rattle.av_ir.specs.declared.run.RunStop.{RunStop}
 use Rattle.av_ir.specs.declared.run.RunStop.TheVariants.{Trap, OutOfSteps, NoMemory}
 use Rattle.av_ir.specs.Run.{Run, ends, traps, after, followed}

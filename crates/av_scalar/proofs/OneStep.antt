@@ -1,5 +1,5 @@
 -- The run of one operation and of one region in terms of their parts, for any work of operations.
-use Rattle.std.proofs.Common.{◌≡◌, ap, ◌∙◌, refl}
+use Rattle.std.proofs.Common.{ap, ◌∙◌}
 use Rattle.av_ir.specs.declared.module.Op.{fold_out-Op, out-Op}
 use Rattle.av_ir.specs.declared.module.Region.{fold_out-Region}
 use Rattle.av_ir.specs.Run.{Act, Env, Body, Perform, op_step, region_step, run_op, run_region, after, followed, types_at, values_at}

@@ -2,8 +2,8 @@
 use Rattle.std.proofs.Common.{◌≡◌, ℕ, List, [], ◌∷◌, get_or, map, ap, subst, refl}
 use Rattle.std.specs.List.{All}
 use Rattle.std.proofs.lemmas.List.Elements.{All-map, All-head, All-tail}
-use Rattle.av_ir.specs.declared.module.Op.{Op, Op-F, out-Op, every-Op, every_here-Op, every_held-Op, every_made-Op, roll-out-Op}
-use Rattle.av_ir.specs.declared.module.Region.{Region, Region-F, out-Region, every-Region, every_here-Region, every_held-Region, every_made-Region, roll-out-Region}
+use Rattle.av_ir.specs.declared.module.Op.{Op, out-Op, every-Op, every_here-Op, every_held-Op, every_made-Op, roll-out-Op}
+use Rattle.av_ir.specs.declared.module.Region.{Region, out-Region, every-Region, every_here-Region, every_held-Region, every_made-Region, roll-out-Region}
 use Rattle.av_ir.specs.WellFormed.{HasUsableMaps, AreValues, IsWellFormedOp, IsWellFormedRegion, OpIsWellFormed, RegionIsWellFormed}
 
 all_firsts : {A : Type 0} (P : A → Type 0) (xs : List A) (ys : List ((x : A) × P x)) → map (λ y. y.0) ys ≡ xs → All P xs

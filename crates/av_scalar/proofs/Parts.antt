@@ -1,5 +1,5 @@
 -- What the work of one operation gives.
-use Rattle.std.proofs.Common.{◌≡◌, ℕ, zero, suc, ◌+◌, List, [], ◌∷◌, length, get_or, drop, map, arith, ap, sym, ◌∙◌, refl, subst}
+use Rattle.std.proofs.Common.{◌≡◌, ℕ, zero, suc, List, [], ◌∷◌, get_or, drop, map, arith, ap, sym, ◌∙◌, refl, subst}
 use Rattle.std.specs.Prelude.{ℤ, Option, Some, None, Result, Ok, Err, MatchResult}
 use Rattle.std.proofs.lemmas.List.{drop-map, drop-drop}
 use Rattle.av_affine.specs.declared.expression.AffMap.{AffMap}

@@ -1,5 +1,5 @@
 -- The run of a function from its arguments on.
-use Rattle.std.proofs.Common.{◌≡◌, ℕ, zero, suc, ◌+◌, ◌^◌, ◌<◌, ◌≤◌, List, [], ◌∷◌, length, get_or, map, arith, ap, sym, ◌∙◌, refl, subst}
+use Rattle.std.proofs.Common.{◌≡◌, ℕ, ◌^◌, ◌<◌, ◌≤◌, List, [], ◌∷◌, length, get_or, map, arith, ap, sym, ◌∙◌, refl, subst}
 use Rattle.std.specs.Prelude.{Option, Some, None, slice_get}
 use Rattle.std.specs.List.{All, AllZip, range_with_len}
 use Rattle.std.proofs.lemmas.List.{length-map}
@@ -20,7 +20,7 @@ use Rattle.av_ir.specs.declared.module.Func.{Func}
 use Rattle.av_ir.specs.declared.module.Region.{out-Region}
 use Rattle.av_ir.specs.Memory.{bound_of, buffer_at, buffers_of, end_of}
 use Rattle.av_ir.specs.Values.{Fits, SuitsOption, SuitsValue, elements}
-use Rattle.av_ir.specs.Run.{Value, Memory, Run, word, word_of, ends, followed, Ending, Env, types_at, run_region}
+use Rattle.av_ir.specs.Run.{Run, word, word_of, ends, followed, Ending, Env, types_at, run_region}
 use Rattle.av_ir.specs.ScalarRun.{argument_values, ended_with, first_memory, memref_types, perform, run_scalar_of}
 use Rattle.av_scalar.specs.declared.memory.Standing.{Standing}
 use Rattle.av_scalar.specs.Meeting.{EndsAt, EndsWithin, Stops}

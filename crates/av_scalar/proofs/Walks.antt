@@ -1,5 +1,5 @@
 -- Operations, regions and turns of loops, one part after the other, for any work of operations.
-use Rattle.std.proofs.Common.{◌≡◌, ℕ, zero, suc, ◌+◌, ◌-◌, ◌%◌, ◌*◌, ◌^◌, ◌<◌, ◌≤◌, List, [], ◌∷◌, length, get_or, drop, map, arith, ap, sym, ◌∙◌, refl, subst}
+use Rattle.std.proofs.Common.{◌≡◌, ℕ, suc, ◌+◌, ◌%◌, ◌*◌, ◌^◌, ◌<◌, ◌≤◌, List, [], ◌∷◌, length, get_or, drop, arith, ap, sym, ◌∙◌, refl}
 use Rattle.std.specs.Prelude.{ℤ, pos, negsuc, ◌+ℤ◌, ◌*ℤ◌, unsigned_abs}
 use Rattle.std.specs.Int.{int_rem_euclid}
 use Rattle.std.proofs.Math.Nat.{add-mul-mod_self_right}
@@ -13,7 +13,7 @@ use Rattle.av_ir.specs.declared.run.RunStop.{RunStop}
 use Rattle.av_ir.specs.declared.run.RunStop.TheVariants.{OutOfSteps}
 use Rattle.av_ir.specs.declared.module.Op.{Op, out-Op}
 use Rattle.av_ir.specs.declared.module.Region.{Region, out-Region}
-use Rattle.av_ir.specs.Run.{Value, word, Memory, Run, ends, after, followed, Given, Ending, Body, Env, State, Perform, bind_values, values_at, handed_on, run_acts, run_op, run_region}
+use Rattle.av_ir.specs.Run.{Value, Memory, Run, ends, after, followed, Given, Ending, Body, Env, State, Perform, bind_values, values_at, handed_on, run_acts, run_op, run_region}
 use Rattle.av_ir.specs.OneLevel.{behind}
 use Rattle.av_ir.specs.ScalarRun.{index_value, loop_from}
 use Rattle.av_scalar.specs.Machines.{acts_of, work_of}

@@ -1,5 +1,5 @@
 -- What the work of an operation meets, by its kind.
-use Rattle.std.proofs.Common.{◌≡◌, ℕ, ◌^◌, ◌≤◌, ◌<◌, List, [], ◌∷◌, length, get_or, drop, map, ap, sym, ◌∙◌, refl, subst}
+use Rattle.std.proofs.Common.{◌≡◌, ℕ, ◌^◌, ◌≤◌, ◌<◌, List, [], ◌∷◌, length, get_or, drop, ap, sym, ◌∙◌, refl, subst}
 use Rattle.std.specs.Prelude.{ℤ, Bool, if◌then◌else◌, Option, Some, None, Result, Ok, Err, OnOk}
 use Rattle.std.specs.List.{All}
 use Rattle.std.proofs.lemmas.List.{get_or-map, length-map}
@@ -11,17 +11,16 @@ use Rattle.av_ir.specs.declared.ty.Ty.{Ty}
 use Rattle.av_ir.specs.declared.run.Buffer.{Buffer}
 use Rattle.av_ir.specs.declared.run.RunStop.{RunStop}
 use Rattle.av_ir.specs.declared.module.ValueId.{ValueId}
-use Rattle.av_ir.specs.declared.module.Op.{Op}
 use Rattle.av_ir.specs.declared.module.OpKind.{OpKind}
 use Rattle.av_ir.specs.declared.module.OpKind.TheVariants.{AffineFor, AffineIf}
-use Rattle.av_ir.specs.Run.{Value, word, Memory, Run, ends, followed, Given, Ending, Body, Env, bind_values, gives}
-use Rattle.av_ir.specs.ScalarRun.{evaluated, first_body, greatest, index_value, least, loop_from, operands_of, perform, perform_branch, perform_loop, second_body, set_holds, turns}
+use Rattle.av_ir.specs.Run.{Value, word, Memory, Run, followed, Given, Ending, Body, Env, bind_values, gives}
+use Rattle.av_ir.specs.ScalarRun.{evaluated, first_body, greatest, index_value, loop_from, operands_of, perform, perform_branch, perform_loop, second_body, set_holds}
 use Rattle.av_scalar.specs.declared.bounds.Turns.{Turns}
 use Rattle.av_scalar.specs.Machines.{HasNoRegions}
 use Rattle.av_scalar.specs.Maps.{IsTurns}
-use Rattle.av_scalar.specs.Meeting.{EndsAt, Leads, Stops}
+use Rattle.av_scalar.specs.Meeting.{EndsAt, Stops}
 use Rattle.av_scalar.specs.Names.{values}
-use Rattle.av_ir.specs.WellFormed.{AreValues, IsWellFormedOp, IsWellFormedRegion}
+use Rattle.av_ir.specs.WellFormed.{AreValues}
 use Rattle.av_scalar.specs.Stores.{AreSmall, sizes_of}
 use Rattle.av_scalar.proofs.Meetings.{goes_on, breaks_off}
 use Rattle.av_scalar.proofs.Parts.{ends_now}

@@ -1,11 +1,11 @@
 -- An interpreter's state and its answers in the terms of a run.
-use Rattle.std.specs.Prelude.{ℕ, List, [], ◌∷◌, map, Option, Some, None}
+use Rattle.std.specs.Prelude.{ℕ, List, map, Option, Some, None}
 use Rattle.av_ir.specs.declared.ty.Ty.{Ty}
 use Rattle.av_ir.specs.declared.module.OpKind.{OpKind}
 use Rattle.av_ir.specs.declared.module.OpKind.TheVariants.{AffineFor, AffineIf}
 use Rattle.av_ir.specs.declared.module.Op.{Op, out-Op}
 use Rattle.av_ir.specs.declared.module.Region.{Region}
-use Rattle.av_ir.specs.Run.{Value, Memory, Run, Given, Ending, Body, Env, State, Act, Perform, types_at, run_op, run_region, run_acts}
+use Rattle.av_ir.specs.Run.{Value, Memory, Run, Given, Ending, Body, Env, State, Act, Perform, types_at, run_op, run_region}
 use Rattle.av_scalar.specs.declared.memory.Standing.{Standing}
 use Rattle.av_scalar.specs.declared.machine.Machine.{Machine}
 use Rattle.av_scalar.specs.declared.machine.Outcome.{Outcome}

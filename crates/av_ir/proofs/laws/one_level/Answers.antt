@@ -1,4 +1,4 @@
-use Rattle.std.proofs.Common.{◌≡◌, ap, ◌∙◌, refl}
+use Rattle.std.proofs.Common.{ap, ◌∙◌}
 use Rattle.av_ir.specs.declared.module.Op.{fold_out-Op, out-Op}
 use Rattle.av_ir.specs.declared.module.Region.{fold_out-Region}
 use Rattle.av_ir.specs.Run.{Act, Env, Body, op_step, region_step, run_op, run_region, after, followed, types_at, values_at}

@@ -1,4 +1,4 @@
-use Rattle.std.proofs.Common.{sym, arith, refl}
+use Rattle.std.proofs.Common.{refl}
 use Rattle.av_ir.proofs.Sizes.{held}
 use Rattle.av_ir.proofs.places.cells.Goals as goal
 

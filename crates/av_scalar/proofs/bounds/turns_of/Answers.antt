@@ -1,7 +1,7 @@
-use Rattle.std.proofs.Common.{◌≡◌, sym, ◌∙◌, ap}
+use Rattle.std.proofs.Common.{sym, ◌∙◌, ap}
 use Rattle.std.proofs.lemmas.Result.{err_from_is_err_and}
 use Rattle.av_bits.specs.Pattern.{pattern_of}
-use Rattle.av_ir.specs.ScalarRun.{evaluated, greatest, least, operands_of, turns}
+use Rattle.av_ir.specs.ScalarRun.{evaluated, greatest, least, turns}
 use Rattle.av_scalar.specs.Names.{values}
 use Rattle.av_scalar.proofs.Parts.{behind_map, upper_stops}
 use Rattle.av_scalar.proofs.bounds.turns_of.Goals as goal

@@ -1,4 +1,4 @@
-use Rattle.std.proofs.Common.{◌≡◌, sym, ◌∙◌, ap, refl, arith, drop, take}
+use Rattle.std.proofs.Common.{◌∙◌, ap, refl, arith, drop, take}
 use Rattle.av_scalar.proofs.Evaluations.{has_results, has_none}
 use Rattle.av_scalar.proofs.maps.evaluate.Goals as goal
 

@@ -1,25 +1,22 @@
-use Rattle.std.proofs.Common.{◌≡◌, ℕ, ◌+◌, ◌-◌, ◌%◌, ◌^◌, ◌<◌, suc, length, drop, take, List, [], ◌∷◌, ap, sym, ◌∙◌, refl, subst, arith, rules}
-use Rattle.std.specs.Prelude.{ℤ, pos, ◌+ℤ◌, if◌then◌else◌}
+use Rattle.std.proofs.Common.{◌≡◌, ◌+◌, ◌-◌, ◌%◌, ◌^◌, suc, length, drop, take, [], ◌∷◌, ap, sym, ◌∙◌, refl, subst, arith, rules}
+use Rattle.std.specs.Prelude.{pos, ◌+ℤ◌, if◌then◌else◌}
 use Rattle.std.proofs.lemmas.Result.{err_from_is_err_and}
-use Rattle.av_bits.specs.Pattern.{pattern_of}
 use Rattle.av_ir.specs.declared.run.RunStop.TheVariants.{OutOfSteps}
 use Rattle.av_ir.specs.declared.module.Op.{out-Op}
 use Rattle.av_ir.specs.declared.module.Op.{the_lemmas as op_lemmas}
 use Rattle.av_ir.specs.declared.module.Region.{out-Region}
 use Rattle.av_ir.specs.declared.module.Region.{the_lemmas as region_lemmas}
-use Rattle.av_ir.specs.declared.module.OpKind.{OpKind}
-use Rattle.av_ir.specs.declared.module.OpKind.TheVariants.{AffineFor, AffineIf}
-use Rattle.av_ir.specs.Run.{Run, Given, Value, Env, word, bind_values, handed_on, run_acts, types_at, values_at}
+use Rattle.av_ir.specs.Run.{bind_values, handed_on, run_acts, types_at, values_at}
 use Rattle.av_ir.specs.ScalarRun.{first_body, greatest, index_value, loop_from, operands_of, perform, second_body}
-use Rattle.av_scalar.specs.Machines.{acts_of, bodies_of, ending_of, given_with, handed_of, memory_in, state_of, work_of}
-use Rattle.av_scalar.specs.Meeting.{EndsAt, Leads, Stops}
-use Rattle.av_scalar.specs.Names.{Since, env_of, unwound, values}
+use Rattle.av_scalar.specs.Machines.{acts_of, bodies_of, ending_of, given_with, handed_of, memory_in, state_of}
+use Rattle.av_scalar.specs.Meeting.{EndsAt, Stops}
+use Rattle.av_scalar.specs.Names.{env_of, unwound, values}
 use Rattle.av_ir.specs.WellFormed.{HasUsableMaps, IsWellFormedOp, IsWellFormedRegion}
 use Rattle.av_scalar.specs.Stores.{sizes_of}
 use Rattle.av_scalar.proofs.Bindings.{as_many_words, restored, since_then}
 use Rattle.av_scalar.proofs.Meetings.{leads_on}
 use Rattle.av_scalar.proofs.Opened.{usable_maps, results_named, regions_formed, args_named, ops_formed}
-use Rattle.av_scalar.proofs.Walks.{op_short, op_stops, op_ends, region_stops, region_ends, ops_end, ops_stop, ops_go_on, turns_end, turn_short, turn_stops, turn_goes_on, pattern_grows}
+use Rattle.av_scalar.proofs.Walks.{op_short, op_stops, op_ends, region_stops, region_ends, ops_stop, ops_go_on, turns_end, turn_short, turn_stops, turn_goes_on, pattern_grows}
 use Rattle.av_scalar.proofs.Works.{all_as, branch_over, branch_stops, for_stops, named_in, no_regions, on_ok, one_as, same_binding, small_kept, turn_args, turns_stop, turns_over}
 use Rattle.av_scalar.proofs.running.+run.Goals as goal
 

@@ -1,6 +1,5 @@
-use Rattle.std.proofs.Common.{◌≡◌, ap, sym, ◌∙◌, refl, subst}
+use Rattle.std.proofs.Common.{ap, sym, ◌∙◌, refl, subst}
 use Rattle.std.proofs.lemmas.Result.{err_from_is_err_and}
-use Rattle.av_ir.specs.declared.module.Region.{out-Region}
 use Rattle.av_ir.specs.Run.{types_at}
 use Rattle.av_ir.specs.ScalarRun.{argument_values, memref_types}
 use Rattle.av_scalar.specs.Names.{env_of}

@@ -1,9 +1,8 @@
-use Rattle.std.proofs.Common.{◌≡◌, ◌∙◌, ◌<◌, ◌+◌, sym, arith, ap, refl, get_or, drop, length, slice_set}
-use Rattle.std.proofs.lemmas.List.Elements.{All-get_or}
+use Rattle.std.proofs.Common.{◌∙◌, ◌<◌, ◌+◌, sym, arith, ap, get_or, drop, length}
 use Rattle.av_affine.proofs.Pairwise.{any_default}
 use Rattle.av_ir.specs.declared.module.ValueId.{ValueId}
-use Rattle.av_ir.specs.Run.{bind_values, word}
-use Rattle.av_scalar.specs.Names.{Since, env_of, values}
+use Rattle.av_ir.specs.Run.{bind_values}
+use Rattle.av_scalar.specs.Names.{env_of, values}
 use Rattle.av_scalar.proofs.Bindings.{env_bound, bind_step, since_bound, since_then, as_many_words}
 use Rattle.av_scalar.proofs.names.Names.bind.Goals as goal
 

@@ -1,6 +1,5 @@
-use Rattle.std.proofs.Common.{◌∙◌, ap, ◌≡◌, get_or}
+use Rattle.std.proofs.Common.{◌∙◌, ap, get_or}
 use Rattle.std.proofs.Math.Path.{fun_ext}
-use Rattle.std.specs.Prelude.{replicate}
 use Rattle.av_ir.specs.Run.{word}
 use Rattle.av_scalar.specs.Names.{env_of}
 use Rattle.av_scalar.proofs.Bindings.{no_words}

@@ -1,6 +1,4 @@
-use Rattle.std.proofs.Common.{◌≡◌, ◌∙◌, sym, arith, ap, get_or}
-use Rattle.av_ir.specs.Run.{Value, word}
-use Rattle.av_ir.specs.declared.module.ValueId.{ValueId}
+use Rattle.std.proofs.Common.{arith}
 use Rattle.av_scalar.specs.Names.{env_of}
 use Rattle.av_scalar.proofs.Bindings.{read_more}
 use Rattle.av_scalar.proofs.names.Names.read.Goals as goal
