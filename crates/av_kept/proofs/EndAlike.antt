@@ -1,14 +1,16 @@
 -- A module of Scalar mode and that module with its marks end alike.
-use Rattle.std.proofs.Common.{◌≡◌, ◌∙◌, ℕ, List, [], ◌∷◌, map, refl, sym, subst}
+use Rattle.std.proofs.Common.{◌≡◌, ◌∙◌, ℕ, List, [], ◌∷◌, map, refl, sym, ap, subst}
 use Rattle.std.specs.List.{All, AllZip}
 use Rattle.std.proofs.lemmas.List.Elements.{All-head, All-tail}
 use Rattle.av_ir.specs.declared.types.Ended.{Ended}
+use Rattle.av_ir.specs.declared.module.Op.{Op}
+use Rattle.av_ir.specs.declared.module.Region.{Region, Region-F, out-Region, roll-out-Region, out-roll-Region}
 use Rattle.av_ir.specs.declared.module.Func.{Func}
 use Rattle.av_ir.specs.declared.module.Module.{Module}
-use Rattle.av_ir.specs.Run.{Run}
-use Rattle.av_ir.specs.Marks.{in_turn, marked_func, marked_of}
+use Rattle.av_ir.specs.Run.{Run, types_at}
+use Rattle.av_ir.specs.Marks.{Made, in_turn, marked_op, marked_region, marked_func, marked_of}
 use Rattle.av_ir.specs.FlatRun.{perform_flat}
-use Rattle.av_ir.proofs.MarkedLevels.{func_alike}
+use Rattle.av_ir.proofs.MarkedLevels.{marked_region-roll, func_alike}
 use Rattle.av_ir.specs.WellFormed.{IsScalarFunc}
 use Rattle.av_flat.proofs.Agreement.{flat_is_scalar}
 use Rattle.av_tree.specs.declared.node.Tree.{Tree}
@@ -17,9 +19,18 @@ use Rattle.av_verify.specs.Elaboration.{elaborated, gives}
 use Rattle.av_kept.specs.Headline.{EndsWith, EndsAlikeAt, EndsAlike}
 use Rattle.av_kept.proofs.Kept.{scalar_module}
 
+arguments_kept : (region : Region) (loops : ℕ) → (out-Region (marked_region region loops).made).args ≡ (out-Region region).args
+arguments_kept region loops =
+    let x = out-Region region in
+    ap (λ (r : Region). (out-Region (marked_region r loops).made).args) (sym (roll-out-Region region))
+    ∙ ap (λ (m : Made Region). (out-Region m.made).args) (marked_region-roll x loops)
+    ∙ ap (λ (y : Region-F Op Region). y.args) (out-roll-Region (record { args = x.args; ops = (in_turn (map marked_op x.ops) loops).made }))
+
 func_ends_alike : (scale : ℕ) (f : Func) (loops : ℕ) → IsScalarFunc f → EndsAlikeAt scale f (marked_func f loops).made
 func_ends_alike scale f loops scalar = record {
   name = refl;
+  arguments = ap (types_at f.values) (arguments_kept f.body loops);
+  results = refl;
   alike = λ args good.
       subst (λ (run : Run Ended). EndsWith run good.outcome)
       (sym (func_alike (perform_flat scale) f loops args ∙ flat_is_scalar scale f args scalar)) good.without_trap;

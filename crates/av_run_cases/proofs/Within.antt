@@ -1,5 +1,5 @@
 -- Indices that are below the extents one by one.
-use Rattle.std.proofs.Common.{◌≡◌, ℕ, ◌+◌, ◌<◌, ◌≤◌, List, [], ◌∷◌, length, get_or, arith}
+use Rattle.std.proofs.Common.{◌≡◌, ℕ, ◌+◌, ◌<◌, ◌≤◌, List, [], ◌∷◌, length, get_or, suc, arith}
 use Rattle.av_shapes.specs.Places.{IsWithin}
 
 pub within_all : (ns is : List ℕ) → length is ≡ length ns → ((k : ℕ) → k < length is → get_or is k 0 < get_or ns k 0) → IsWithin ns is

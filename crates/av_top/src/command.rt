@@ -1,7 +1,7 @@
 //! The command as a whole.
 
 ghost use Rattle.std.specs.Prelude.{◌≡◌, ℕ, ◌≤◌, ◌⊎◌, IfOk, List, Some, codes, length};
-ghost use Rattle.av_io.specs.Devices.{Rose};
+ghost use Rattle.av_io.specs.Devices.{ReadsFew, Rose};
 ghost use Rattle.av_top.specs.Request.{AsksNothing, IsVectorize, texts};
 ghost use Rattle.av_top.specs.Answered.{Answered, DeliversAnswer};
 ghost use Rattle.av_top.specs.Decided.{Asks, Decided, IsBadText, NoFault};
@@ -34,6 +34,11 @@ pub fn affvec<I: Source, O: Sink, N: Sink>(
     ensures usage { result ≡ Status.BadUsage → AsksNothing (texts words.now) }
     ensures usage_only { AsksNothing (texts words.now) → (result ≡ Status.BadUsage) ⊎ (result ≡ Status.NoMemory) }
     ensures input { InputAfter result (I.left input.old) (I.left input.new) (I.faults input.old) (I.faults input.new) }
+    // Nothing is read for words that are refused. Otherwise at most a megabyte and one reads are made, and where
+    // the source tells its bytes at most one more than bytes were taken: at a source that gives one byte a read,
+    // none follows the end, or a fault that lasts.
+    ensures unread { result ≡ Status.BadUsage → I.calls input.new ≡ I.calls input.old }
+    ensures reads { ReadsFew 1048577 (I.left input.old) (I.left input.new) (I.calls input.old) (I.calls input.new) }
     ensures sinks { SinksAfter result (O.held output.old) (O.held output.new) (O.faults output.old) (O.faults output.new) (N.held notes.old) (N.held notes.new) (N.faults notes.old) (N.faults notes.new) }
     // Where the source tells its bytes, they alone decide between the statuses below, but for faults and memory.
     ensures too_large { (request : OneRequest) (bytes : List ℕ) → Asks (texts words.now) (I.left input.old) request bytes → result ≡ Status.TooLarge → IsTooLarge bytes }
@@ -102,6 +107,7 @@ fn perform<I: Source, O: Sink, N: Sink>(
     requires { (1 ≤ request.size) × (request.size ≤ 64) }
     ensures usage { result ≡ Status.BadUsage → ⊥ }
     ensures input { InputAfter result (I.left input.old) (I.left input.new) (I.faults input.old) (I.faults input.new) }
+    ensures reads { ReadsFew 1048577 (I.left input.old) (I.left input.new) (I.calls input.old) (I.calls input.new) }
     ensures sinks { SinksAfter result (O.held output.old) (O.held output.new) (O.faults output.old) (O.faults output.new) (N.held notes.old) (N.held notes.new) (N.faults notes.old) (N.faults notes.new) }
     ensures decided { (bytes : List ℕ) → I.left input.old ≡ Some bytes → Decided result request bytes }
     ensures answer { result ≡ Status.Done → Answered request (I.left input.old) (I.left input.new) (Delivered (O.held output.old) (O.held output.new) (O.faults output.old) (O.faults output.new) (N.held notes.old) (N.held notes.new) (N.faults notes.old) (N.faults notes.new)) }

@@ -2,7 +2,7 @@
 
 ghost use Rattle.std.specs.Prelude.{◌≡◌, ℕ, ◌≤◌, List, length, OnOk, OnErr, IfOk, IfErr, vec_len, is_some};
 ghost use Rattle.std.specs.Io.KnownBytes.{Consumes, IsAtEnd};
-ghost use Rattle.av_io.specs.Devices.{Rose};
+ghost use Rattle.av_io.specs.Devices.{ReadsFew, Rose};
 ghost use Rattle.av_top.specs.Outcome.{Taken, TakenAll, TakenMany};
 ghost use Rattle.av_top.specs.Intake.{IntakeStopped, IntakeEnds};
 
@@ -33,6 +33,7 @@ pub enum Intake {
 pub fn read_input<I: Source>(alloc: Global, input: &mut I) -> Result<Intake, IntakeStop>
     ensures ok { IfOk result (λ read. IntakeEnds read (I.left input.old) (I.left input.new)) }
     ensures count { OnOk result (I.faults input.new ≡ I.faults input.old) }
+    ensures reads { ReadsFew 1048577 (I.left input.old) (I.left input.new) (I.calls input.old) (I.calls input.new) }
     ensures err { IfErr result (λ stop. IntakeStopped stop (I.left input.old) (I.left input.new) (I.faults input.old) (I.faults input.new)) }
 {
     let Ok(mut buffer) = zeros(alloc, MOST_BYTES + 1) else {

@@ -9,3 +9,4 @@ pub mod Given
 pub mod Rules
 pub mod GoodMaps
 pub mod Kept
+pub mod Smallest

@@ -15,4 +15,5 @@ pub mod Ends
 pub mod Loops
 pub mod Modules
 pub mod Elaboration
+pub mod Smallest
 pub mod Parts

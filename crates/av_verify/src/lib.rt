@@ -10,6 +10,7 @@ mod arith;
 mod entries;
 mod expressions;
 mod form;
+pub mod laws;
 mod loops;
 mod maps;
 mod module;

@@ -8,6 +8,7 @@ pub mod Firsts
 pub mod ExprParts
 pub mod AttrEquations
 pub mod AttrParts
+pub mod InOrder
 pub mod Said
 pub mod LineParts
 pub mod Names

@@ -1,5 +1,7 @@
 -- What holds of pieces that are written and read again.
-use Rattle.std.specs.Prelude.{ℕ, ◌≡◌, Bool, true, List, ◌++◌, map}
+use Rattle.std.specs.Prelude.{ℕ, ◌≡◌, Bool, true, List, ◌++◌, map, IsPermutation, IsSortedByKey}
+use Rattle.std.specs.Ordering.{nat_cmp}
+use Rattle.std.specs.Cmp.Lexicographic.{slice_cmp}
 use Rattle.av_lex.specs.declared.token.Token.{Token}
 use Rattle.av_lex.specs.Tokens.{Tokens}
 use Rattle.av_derive.specs.ClassOf.{class_of, classes_of, spelling_of}
@@ -9,9 +11,9 @@ use Rattle.av_tree.specs.declared.written.MapText.{MapText}
 use Rattle.av_tree.specs.declared.written.SetText.{SetText}
 use Rattle.av_printer.specs.Expressions.{map_pieces, set_pieces, map_use, subscripts, bound}
 use Rattle.av_tree.specs.declared.attribute.Attr.{Attr}
-use Rattle.av_tree.specs.declared.attribute.Named.{Named}
+use Rattle.av_tree.specs.declared.attribute.Named.{Named, out-Named}
 use Rattle.av_printer.specs.Attributes.{attribute}
-use Rattle.av_printer.specs.Dictionaries.{dictionary}
+use Rattle.av_printer.specs.Dictionaries.{dictionary, in_order}
 use Rattle.av_printer.specs.Types.{type_pieces}
 use Rattle.av_written.specs.Spacing.{begins_apart, SpacedBefore, Spaced, tokens_of, words_of}
 use Rattle.std.specs.List.{All}
@@ -77,3 +79,12 @@ DictionariesLaw = (entries : List Named) → AreReadEntries entries → (rest : 
 -- and of a whole tree, in each form
 abbrev pub TreesLaw : Type 0
 TreesLaw = (form : Form) (root : Node) → IsReadNode form root → Spaced (pieces_of form root)
+
+-- the name of an entry
+abbrev pub name_of : Named → List ℕ
+name_of entry = (out-Named entry).name
+
+-- the entries of a dictionary are spelled in order of name, by bytes: none has a smaller name than the one before it; and they
+-- are the entries of the dictionary, each as often
+abbrev pub OrderedEntriesLaw : Type 0
+OrderedEntriesLaw = (entries : List Named) → IsSortedByKey name_of (slice_cmp nat_cmp) (in_order entries) × IsPermutation entries (in_order entries)

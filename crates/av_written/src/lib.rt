@@ -3,7 +3,7 @@
 //! A spelling that is read again has exactly the tokens that were spelled.
 #![tactic(auto)]
 
-ghost use Rattle.av_written.specs.WrittenLaws.{AttributesLaw, ClassesLaw, DictionariesLaw, MapUsesLaw, MapsLaw, NoOtherTokensLaw, PartsLaw, SetsLaw, SpellingsLaw, TokensLaw, TreesLaw, TypesLaw};
+ghost use Rattle.av_written.specs.WrittenLaws.{AttributesLaw, ClassesLaw, DictionariesLaw, MapUsesLaw, MapsLaw, NoOtherTokensLaw, OrderedEntriesLaw, PartsLaw, SetsLaw, SpellingsLaw, TokensLaw, TreesLaw, TypesLaw};
 ghost use Rattle.av_written.specs.WrittenTrees.{FormsLaw, WrittenTreesLaw};
 
 /// The tokens of what spaced pieces spell are their words.
@@ -74,4 +74,10 @@ pub fn trees_are_read_as_spelled()
 /// A tree that can be spelled with operations in forms of their own can be spelled in each form.
 pub fn each_form_can_be_spelled()
     ensures { FormsLaw }
+{}
+
+/// The entries of a dictionary are spelled in order of name, by bytes, and each as often as it stands
+/// in the dictionary.
+pub fn entries_are_ordered()
+    ensures { OrderedEntriesLaw }
 {}
