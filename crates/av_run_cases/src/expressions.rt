@@ -118,15 +118,23 @@ fn are_rows_admissible(rows: &[SetRow]) -> bool
 }
 
 fn map(alloc: Global, written: &[u8]) -> Result<AffMap, Why> {
-    match attribute(alloc, written)? {
-        Attr::Map(map) => map_of(alloc, &map),
+    map_in(alloc, &attribute(alloc, written)?)
+}
+
+fn map_in(alloc: Global, attribute: &Attr) -> Result<AffMap, Why> {
+    match attribute {
+        Attr::Map(map) => map_of(alloc, map),
         _ => Err(Why::BadValue),
     }
 }
 
 fn set(alloc: Global, written: &[u8]) -> Result<AffSet, Why> {
-    match attribute(alloc, written)? {
-        Attr::Set(set) => set_of(alloc, &set),
+    set_in(alloc, &attribute(alloc, written)?)
+}
+
+fn set_in(alloc: Global, attribute: &Attr) -> Result<AffSet, Why> {
+    match attribute {
+        Attr::Set(set) => set_of(alloc, set),
         _ => Err(Why::BadValue),
     }
 }
@@ -190,30 +198,28 @@ fn expression(alloc: Global, parameters: &Parameters, e: &ExprText) -> Result<Ex
         ExprText::Name(name) => parameter(parameters, name.as_slice()),
         ExprText::Const(value) => Ok(Expr::Const(*value)),
         ExprText::Neg(a) => Ok(Expr::Neg(side(alloc, parameters, a)?)),
-        ExprText::Add(a, b) => Ok(Expr::Add(
-            side(alloc, parameters, a)?,
-            side(alloc, parameters, b)?,
-        )),
-        ExprText::Sub(a, b) => Ok(Expr::Sub(
-            side(alloc, parameters, a)?,
-            side(alloc, parameters, b)?,
-        )),
-        ExprText::Mul(a, b) => Ok(Expr::Mul(
-            side(alloc, parameters, a)?,
-            side(alloc, parameters, b)?,
-        )),
-        ExprText::Mod(a, b) => Ok(Expr::Mod(
-            side(alloc, parameters, a)?,
-            side(alloc, parameters, b)?,
-        )),
-        ExprText::Floor(a, b) => Ok(Expr::Floor(
-            side(alloc, parameters, a)?,
-            side(alloc, parameters, b)?,
-        )),
-        ExprText::Ceil(a, b) => Ok(Expr::Ceil(
-            side(alloc, parameters, a)?,
-            side(alloc, parameters, b)?,
-        )),
+        ExprText::Add(a, b)
+        | ExprText::Sub(a, b)
+        | ExprText::Mul(a, b)
+        | ExprText::Mod(a, b)
+        | ExprText::Floor(a, b)
+        | ExprText::Ceil(a, b) => {
+            let left = side(alloc, parameters, a)?;
+            let right = side(alloc, parameters, b)?;
+            Ok(joined(e, left, right))
+        }
+    }
+}
+
+// The expression of these sides with the sign of another.
+fn joined(e: &ExprText, left: Held<Expr>, right: Held<Expr>) -> Expr {
+    match e {
+        ExprText::Sub(_, _) => Expr::Sub(left, right),
+        ExprText::Mul(_, _) => Expr::Mul(left, right),
+        ExprText::Mod(_, _) => Expr::Mod(left, right),
+        ExprText::Floor(_, _) => Expr::Floor(left, right),
+        ExprText::Ceil(_, _) => Expr::Ceil(left, right),
+        _ => Expr::Add(left, right),
     }
 }
 

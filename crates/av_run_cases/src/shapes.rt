@@ -78,11 +78,13 @@ pub fn copy_case(alloc: Global, words: &[String]) -> Result<String, Why> {
     let [word] = words else {
         return Err(Why::BadValue);
     };
-    let shape = shape(alloc, word.as_str())?;
-    let copy = shape.copy();
-    let text = shown(alloc, &copy)?;
-    let rank = copy.rank();
-    let equal = copy == shape;
+    copied(alloc, &shape(alloc, word.as_str())?)
+}
+
+fn copied(alloc: Global, shape: &Shape) -> Result<String, Why> {
+    let rank = shape.rank();
+    let equal = shape.copy() == *shape;
+    let text = shown(alloc, &shape.copy())?;
     Ok(format!(in alloc; "{text} {rank} {equal}")?)
 }
 
@@ -110,14 +112,19 @@ pub fn extent_case(alloc: Global, words: &[String]) -> Result<String, Why> {
     let [word, at, dimension] = words else {
         return Err(Why::BadValue);
     };
-    let shape = shape(alloc, word.as_str())?;
     let scale = scale(at.as_str())?;
     let dimension = small(dimension.as_str())? as usize;
+    let extent = extent_of(&shape(alloc, word.as_str())?, scale, dimension)?;
+    Ok(format!(in alloc; "{extent}")?)
+}
+
+fn extent_of(shape: &Shape, scale: u32, dimension: usize) -> Result<u32, Why>
+    requires { IsScale scale }
+{
     if dimension >= shape.rank() {
         return Err(Why::BadValue);
     }
-    let extent = shape.extent(dimension, scale);
-    Ok(format!(in alloc; "{extent}")?)
+    Ok(shape.extent(dimension, scale))
 }
 
 /// `SHAPE SCALE INDEX ..`: the place of an element.
@@ -125,17 +132,27 @@ pub fn place_case(alloc: Global, words: &[String]) -> Result<String, Why> {
     let [word, at, behind @ ..] = words else {
         return Err(Why::BadValue);
     };
-    let shape = shape(alloc, word.as_str())?;
     let scale = scale(at.as_str())?;
-    let mut indices = Vec::new(alloc);
-    for word in behind {
-        indices.push(u32::from(small(word.as_str())?))?;
+    let indices = smalls(alloc, behind)?;
+    let place = place_of(&shape(alloc, word.as_str())?, scale, &indices)?;
+    Ok(format!(in alloc; "{place}")?)
+}
+
+fn smalls(alloc: Global, words: &[String]) -> Result<Vec<u32>, Why> {
+    let mut numbers = Vec::new(alloc);
+    for word in words {
+        numbers.push(u32::from(small(word.as_str())?))?;
     }
-    if !is_within(&shape, scale, &indices) {
+    Ok(numbers)
+}
+
+fn place_of(shape: &Shape, scale: u32, indices: &[u32]) -> Result<u32, Why>
+    requires { IsScale scale }
+{
+    if !is_within(shape, scale, indices) {
         return Err(Why::BadValue);
     }
-    let place = shape.place(&indices, scale);
-    Ok(format!(in alloc; "{place}")?)
+    Ok(shape.place(indices, scale))
 }
 
 // Whether these are the indices of an element.
@@ -159,16 +176,28 @@ pub fn permuted_case(alloc: Global, words: &[String]) -> Result<String, Why> {
     let [word, behind @ ..] = words else {
         return Err(Why::BadValue);
     };
-    let shape = shape(alloc, word.as_str())?;
+    let order = order_of(alloc, behind)?;
+    in_order(alloc, &shape(alloc, word.as_str())?, &order)
+}
+
+fn order_of(alloc: Global, words: &[String]) -> Result<Vec<u8>, Why> {
     let mut order = Vec::new(alloc);
-    for word in behind {
-        let Ok(dimension) = u8::try_from(magnitude(word.as_str())?) else {
-            return Err(Why::BadValue);
-        };
-        order.push(dimension)?;
+    for word in words {
+        order.push(tiny(word.as_str())?)?;
     }
-    if !shape.can_permute(&order) {
+    Ok(order)
+}
+
+fn tiny(word: &str) -> Result<u8, Why> {
+    match u8::try_from(magnitude(word)?) {
+        Ok(number) => Ok(number),
+        Err(_) => Err(Why::BadValue),
+    }
+}
+
+fn in_order(alloc: Global, shape: &Shape, order: &[u8]) -> Result<String, Why> {
+    if !shape.can_permute(order) {
         return Ok(String::from_str(alloc, "none")?);
     }
-    shown(alloc, &shape.permuted(&order))
+    shown(alloc, &shape.permuted(order))
 }

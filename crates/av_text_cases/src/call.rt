@@ -1,10 +1,11 @@
 //! The calls that a case may ask for.
 ghost use Rattle.std.specs.Prelude.{◌≤◌, ◌^◌, length};
 
+use crate::built::distinct;
 use crate::prefixes::prefixes;
 use crate::stop::Stop;
 use crate::texts::{derivation, reading, tokens};
-use crate::trees::{answer, distinct, path, printed, sunk, verified, written};
+use crate::trees::{answer, path, printed, shown, sunk, verified, written};
 use av_cases::{Case, CaseFault, Why};
 use av_derive::Limits;
 use av_printer::Form;
@@ -31,7 +32,7 @@ pub enum Call {
     Verify,
     /// `write named` and `write generic`
     Write(Form),
-    /// `write distinct`
+    /// `write distinct`, a function that is built and has no text so far.
     WriteDistinct,
     /// `answer named` and `answer generic`
     Answer(Form),
@@ -83,7 +84,7 @@ impl Call {
             Call::IsFirstPath => path(alloc, text),
             Call::Verify => verified(alloc, text),
             Call::Write(form) => written(alloc, text, form),
-            Call::WriteDistinct => distinct(alloc, text),
+            Call::WriteDistinct => shown(alloc, &distinct(alloc)?, Form::Named),
             Call::Answer(form) => answer(alloc, text, form),
         }
     }

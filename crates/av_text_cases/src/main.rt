@@ -5,6 +5,7 @@
 //! taken out, and `<place>` in `gives` stands for its place.
 #![tactic(auto)]
 
+mod built;
 mod call;
 mod prefixes;
 mod question;

@@ -3,9 +3,8 @@ ghost use Rattle.std.specs.Prelude.{◌≤◌, ◌^◌, length};
 
 use crate::stop::Stop;
 use crate::texts::tree;
-use av_affine::Seq;
 use av_io::PlainSink;
-use av_ir::{Func, Marks, Module, marked};
+use av_ir::{Module, marked};
 use av_printer::{Form, print, spell};
 use av_shapes::Shape;
 use av_totree::to_tree;
@@ -80,29 +79,8 @@ pub fn written(alloc: Global, text: &[u8], form: Form) -> Result<String, Stop>
     shown(alloc, &module, form)
 }
 
-/// The last function of a text, as one whose buffers are told apart, printed.
-pub fn distinct(alloc: Global, text: &[u8]) -> Result<String, Stop>
-    requires { length text.now ≤ 2 ^ 20 }
-{
-    let read = tree(alloc, text)?;
-    let module = verify(alloc, &read, &Mode::Run)?;
-    let mut funcs = Seq::new(alloc);
-    if let Some(func) = module.funcs.into_vec().pop() {
-        funcs.push(told_apart(func))?;
-    }
-    let owners = Seq::new(alloc);
-    shown(alloc, &Module { funcs, owners }, Form::Named)
-}
-
-fn told_apart(func: Func) -> Func {
-    let marks = Marks {
-        distinct: true,
-        ..func.marks
-    };
-    Func { marks, ..func }
-}
-
-fn shown(alloc: Global, module: &Module, form: Form) -> Result<String, Stop> {
+/// A module, printed.
+pub fn shown(alloc: Global, module: &Module, form: Form) -> Result<String, Stop> {
     let tree = to_tree(alloc, module)?;
     let output = spell(alloc, &tree, form)?;
     Ok(string_of(alloc, output.as_slice())?)
