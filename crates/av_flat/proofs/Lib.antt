@@ -1,1 +1,2 @@
+pub mod ScalarParts
 pub mod Agreement

@@ -1,20 +1,25 @@
 //! What holds of flat runs, for the proofs of callers. These functions do nothing.
 ghost use Rattle.std.specs.Prelude.{ℕ};
-ghost use Rattle.av_flat.specs.Laws.{FlatExamples, MarkedLaw, ScalarLaw};
+ghost use Rattle.av_flat.specs.Examples.{ElementExamples, IndexedExamples, LaneExamples, RowExamples, SignedLoopExamples};
+ghost use Rattle.av_flat.specs.Laws.{MarkedLaw, ScalarLaw};
 
-/// On a function without vectors the flat run at each scale is the scalar run: in its end, its traps
+/// On a function of Scalar mode the flat run at each scale is the scalar run: in its end, its traps
 /// and its steps.
 pub fn scalar_law()
     ensures { ScalarLaw }
 {}
 
-/// Where a module has no vectors, the flat run at each scale of the module with its loops and accesses
-/// marked is the scalar run of the module: in its end, its traps and its steps.
+/// Where a module is of Scalar mode, the flat run at each scale of the module with its loops and
+/// accesses marked is the scalar run of the module: in its end, its traps and its steps.
 pub fn marked_law()
     ensures { MarkedLaw }
 {}
 
 /// Small pieces of work on vectors, worked out by hand.
 pub fn worked_examples()
-    ensures { (number : ℕ) → FlatExamples number }
+    ensures elements { (number : ℕ) → ElementExamples number }
+    ensures rows { (number : ℕ) → RowExamples number }
+    ensures indexed { (number : ℕ) → IndexedExamples number }
+    ensures on_lanes { (number : ℕ) → LaneExamples number }
+    ensures looped { (number : ℕ) → SignedLoopExamples number }
 {}

@@ -7,7 +7,7 @@ use Rattle.av_ir.specs.declared.module.Op.{Op, out-Op, fold_out-Op}
 use Rattle.av_ir.specs.declared.module.Region.{Region, out-Region, fold_out-Region}
 use Rattle.av_ir.specs.Marks.{is_loop, is_none, flag_op, flag_region, op_flags, region_flags}
 
-abbrev with_inner : Bool → List Bool → List Bool
+abbrev pub with_inner : Bool → List Bool → List Bool
 with_inner looped inner = if looped then is_none inner ∷ inner else inner
 
 pub op_flags-out : (op : Op) → op_flags op ≡ with_inner (is_loop (out-Op op).kind) (flat_map region_flags (out-Op op).regions)

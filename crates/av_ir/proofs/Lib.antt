@@ -8,3 +8,5 @@ pub mod Turns
 pub mod MadeParts
 pub mod Flags
 pub mod InnerLoops
+pub mod TurnLaws
+pub mod NumberLaws

@@ -7,7 +7,7 @@ use Rattle.av_ir.specs.declared.module.Func.{Func}
 use Rattle.av_ir.specs.declared.run.Args.{Args}
 use Rattle.av_ir.specs.Memory.{bound_of}
 use Rattle.av_ir.specs.Run.{word, Act, Env, Body, Perform, op_step, region_step, run_op, run_region, followed, types_at}
-use Rattle.av_ir.specs.ScalarRun.{perform, run_scalar_of, argument_values, memref_types, first_memory, ended_with}
+use Rattle.av_ir.specs.ScalarRun.{run_func_by, argument_values, memref_types, first_memory, ended_with}
 use Rattle.av_ir.specs.Marks.{Made, Making, in_turn, own_loops, mark_op, mark_region, marked_op, marked_region, marked_func}
 
 pub marked_op-roll : (x : Op-F Op Region) (loops : ℕ)
@@ -40,7 +40,7 @@ module _ {A B : Type 0} (f : A → B) (marking : A → Making A) where
       ∙ ap (λ bs. f y.0 ∷ bs) (alike_in_turn ys (marking y.0 loops).loops)
 
 module _ (perform : Perform) (types : List Ty) where
-  run_op-roll : (x : Op-F Op Region) → run_op perform types (roll-Op x) ≡ op_step perform types (record {
+  pub run_op-roll : (x : Op-F Op Region) → run_op perform types (roll-Op x) ≡ op_step perform types (record {
     number = x.number;
     kind = x.kind;
     operands = x.operands;
@@ -51,7 +51,7 @@ module _ (perform : Perform) (types : List Ty) where
   unfolding run_op run_region
   run_op-roll x = fold-roll-Op Act (Env → Body) (op_step perform types) region_step x
 
-  run_region-roll : (x : Region-F Op Region)
+  pub run_region-roll : (x : Region-F Op Region)
       → run_region perform types (roll-Region x) ≡ region_step (record { args = x.args; ops = map (run_op perform types) x.ops })
   unfolding run_op run_region
   run_region-roll x = fold-roll-Region Act (Env → Body) (op_step perform types) region_step x
@@ -124,17 +124,17 @@ memory_kept f loops args =
       kinds = memref_types (types_at f.values ids);
     }) (args_kept f.body loops)
 
-func_alike : (f : Func) (loops : ℕ) (args : Args) → run_scalar_of (marked_func f loops).made args ≡ run_scalar_of f args
-func_alike f loops args =
+pub func_alike : (work : Perform) (f : Func) (loops : ℕ) (args : Args) → run_func_by work (marked_func f loops).made args ≡ run_func_by work f args
+func_alike work f loops args =
     let first = λ (k : ℕ). word 0 in
     let values = argument_values 0 args.list in
-    ap (λ memory. followed (run_region perform f.values (marked_region f.body loops).made first values memory) ended_with) (memory_kept f loops args)
-    ∙ ap (λ (body : Env → Body). followed (body first values (first_memory f args)) ended_with) (same_region perform f.values f.body loops)
+    ap (λ memory. followed (run_region work f.values (marked_region f.body loops).made first values memory) ended_with) (memory_kept f loops args)
+    ∙ ap (λ (body : Env → Body). followed (body first values (first_memory f args)) ended_with) (same_region work f.values f.body loops)
 
-pub funcs_alike : (args : Args) (fs : List Func) (loops : ℕ)
-    → map (λ f. run_scalar_of f args) (in_turn (map marked_func fs) loops).made ≡ map (λ f. run_scalar_of f args) fs
+pub funcs_alike : (work : Perform) (args : Args) (fs : List Func) (loops : ℕ)
+    → map (λ f. run_func_by work f args) (in_turn (map marked_func fs) loops).made ≡ map (λ f. run_func_by work f args) fs
 unfolding in_turn
-funcs_alike args [] loops = refl
-funcs_alike args (f ∷ fs) loops =
-    ap (λ r. r ∷ map (λ f. run_scalar_of f args) (in_turn (map marked_func fs) (marked_func f loops).loops).made) (func_alike f loops args)
-    ∙ ap (λ rs. run_scalar_of f args ∷ rs) (funcs_alike args fs (marked_func f loops).loops)
+funcs_alike work args [] loops = refl
+funcs_alike work args (f ∷ fs) loops =
+    ap (λ r. r ∷ map (λ f. run_func_by work f args) (in_turn (map marked_func fs) (marked_func f loops).loops).made) (func_alike work f loops args)
+    ∙ ap (λ rs. run_func_by work f args ∷ rs) (funcs_alike work args fs (marked_func f loops).loops)

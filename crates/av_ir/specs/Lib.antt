@@ -4,8 +4,13 @@ pub mod Memory
 pub mod Named
 pub mod Run
 pub mod OneLevel
+pub mod Elements
 pub mod ScalarRun
+pub mod WellFormed
 pub mod Examples
 pub mod Marks
 pub mod MarkedRuns
+pub mod Turns
+pub mod Numbers
+pub mod Lanes
 pub mod FlatRun

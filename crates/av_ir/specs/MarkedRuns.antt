@@ -6,7 +6,7 @@ use Rattle.av_ir.specs.declared.module.Region.{Region}
 use Rattle.av_ir.specs.declared.module.Module.{Module}
 use Rattle.av_ir.specs.declared.run.Args.{Args}
 use Rattle.av_ir.specs.Run.{Perform, run_op, run_region}
-use Rattle.av_ir.specs.ScalarRun.{run_scalar_of}
+use Rattle.av_ir.specs.ScalarRun.{run_func_by}
 use Rattle.av_ir.specs.Marks.{marked_op, marked_region, marked_of}
 
 -- a marked operation, and a region of marked operations, run as without marks, whatever operations do
@@ -23,4 +23,5 @@ MarkedRegionLaw =
 -- the functions of a marked module run as those of the module
 abbrev pub MarkedModuleLaw : Type 0
 MarkedModuleLaw =
-    (m : Module) (args : Args) → map (λ f. run_scalar_of f args) (marked_of m).funcs ≡ map (λ f. run_scalar_of f args) m.funcs
+    (perform : Perform) (m : Module) (args : Args)
+    → map (λ f. run_func_by perform f args) (marked_of m).funcs ≡ map (λ f. run_func_by perform f args) m.funcs

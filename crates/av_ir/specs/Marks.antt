@@ -2,7 +2,7 @@
 use Rattle.std.specs.Prelude.{ℕ, ◌+◌, Bool, true, false, if◌then◌else◌, List, [], ◌∷◌, ◌++◌, map, length, Option, Some, None}
 use Rattle.std.specs.List.{flat_map}
 use Rattle.av_ir.specs.declared.module.OpKind.{OpKind}
-use Rattle.av_ir.specs.declared.module.OpKind.TheVariants.{FuncReturn, ArithConstant, ArithBinary, AffineFor, AffineYield, AffineLoad, AffineStore}
+use Rattle.av_ir.specs.declared.module.OpKind.TheVariants.{AffineFor, AffineLoad, AffineStore, MemrefLoad, MemrefStore, ScfFor, VectorLoad, VectorStore, VectorMaskedLoad, VectorMaskedStore, VectorGather, VectorScatter}
 use Rattle.av_ir.specs.declared.module.Marks.{Marks}
 use Rattle.av_ir.specs.declared.module.Op.{Op, Op-F, roll-Op, fold-Op}
 use Rattle.av_ir.specs.declared.module.Region.{Region, Region-F, roll-Region, fold-Region}
@@ -12,22 +12,22 @@ use Rattle.av_ir.specs.declared.marking.InnerLoop.{InnerLoop}
 
 -- the kinds of loops, and of operations that touch elements of a buffer
 abbrev pub is_loop : OpKind → Bool
-is_loop FuncReturn = false
-is_loop (ArithConstant value) = false
-is_loop (ArithBinary op) = false
 is_loop (AffineFor lower upper step) = true
-is_loop AffineYield = false
-is_loop (AffineLoad m) = false
-is_loop (AffineStore m) = false
+is_loop ScfFor = true
+is_loop _ = false
 
 abbrev pub is_access : OpKind → Bool
-is_access FuncReturn = false
-is_access (ArithConstant value) = false
-is_access (ArithBinary op) = false
-is_access (AffineFor lower upper step) = false
-is_access AffineYield = false
 is_access (AffineLoad m) = true
 is_access (AffineStore m) = true
+is_access MemrefLoad = true
+is_access MemrefStore = true
+is_access VectorLoad = true
+is_access VectorStore = true
+is_access VectorMaskedLoad = true
+is_access VectorMaskedStore = true
+is_access VectorGather = true
+is_access VectorScatter = true
+is_access _ = false
 
 -- ---- marks
 -- what is made of a part of a module, and how many loops stand before the part's end

@@ -17,7 +17,7 @@ OpLaw perform =
     → run_op perform types op env memory handed
     ≡ after 1
     (followed
-    (perform (types_at types (out-Op op).results) (out-Op op).kind (out-Op op).number (values_at env (out-Op op).operands)
+    (perform (types_at types (out-Op op).operands) (types_at types (out-Op op).results) (out-Op op).kind (out-Op op).number (values_at env (out-Op op).operands)
     (map (λ region. run_region perform types region env) (out-Op op).regions) memory)
     (behind env op handed))
 

@@ -76,6 +76,16 @@ bind_values env (id ∷ ids) (value ∷ values) = bind_values (bind_value env id
 abbrev pub values_at : Env → List ValueId → List Value
 values_at env ids = map (λ id. env id.0) ids
 
+-- ---- what operations give
+-- an operation that changes no memory and ends no region gives its results
+abbrev pub gives : List Value → Memory → Run Given
+gives values memory = ends (record { outcome = values; memory = memory; handed = None }) 0
+
+-- the last operation of a region hands its operands on
+abbrev pub hands : List Value → Memory → Run Given
+hands values memory = ends (record { outcome = []; memory = memory; handed = Some values }) 0
+
+-- ---- walks
 -- the types of values in a table
 abbrev pub types_at : List Ty → List ValueId → List Ty
 types_at types ids = map (λ id. slice_index_or types id.0 (Scalar Index)) ids
@@ -94,10 +104,10 @@ abbrev pub run_acts : List Act → Act
 run_acts [] env memory handed = ends (record { env = env; memory = memory; handed = handed }) 0
 run_acts (act ∷ acts) env memory handed = followed (act env memory handed) (λ s. run_acts acts s.env s.memory s.handed)
 
--- an operation's own work: from the types of its results, its kind and number, the values of its
--- operands and its regions to what it gives, without the step of the operation itself
+-- an operation's own work: from the types of its operands and of its results, its kind and number, the
+-- values of its operands and its regions to what it gives, without the step of the operation itself
 abbrev pub Perform : Type 0
-Perform = List Ty → OpKind → ℕ → List Value → List Body → Memory → Run Given
+Perform = List Ty → List Ty → OpKind → ℕ → List Value → List Body → Memory → Run Given
 
 -- what is handed on behind an operation
 abbrev pub handed_on : Option (List Value) → List Value → List Value
@@ -108,7 +118,7 @@ handed_on None before = before
 abbrev pub op_step : Perform → List Ty → Op-F Act (Env → Body) → Act
 op_step perform types op env memory handed =
     after 1
-    (followed (perform (types_at types op.results) op.kind op.number (values_at env op.operands) (map (λ region. region env) op.regions) memory)
+    (followed (perform (types_at types op.operands) (types_at types op.results) op.kind op.number (values_at env op.operands) (map (λ region. region env) op.regions) memory)
     (λ g. ends (record { env = bind_values env op.results g.outcome; memory = g.memory; handed = handed_on g.handed handed }) 0))
 
 -- a region begins in the environment around it; what it defines is gone behind it

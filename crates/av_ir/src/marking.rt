@@ -142,13 +142,25 @@ fn count_loop(kind: &OpKind, number: No, loops: &mut Seq<No>) -> Result<(), Allo
 fn is_loop(kind: &OpKind) -> bool
     ensures { result ≡ is_loop_kind kind.now }
 {
-    matches!(kind, OpKind::AffineFor { .. })
+    matches!(kind, OpKind::AffineFor { .. } | OpKind::ScfFor)
 }
 
 fn is_access(kind: &OpKind) -> bool
     ensures { result ≡ is_access_kind kind.now }
 {
-    matches!(kind, OpKind::AffineLoad(_) | OpKind::AffineStore(_))
+    matches!(
+        kind,
+        OpKind::AffineLoad(_)
+            | OpKind::AffineStore(_)
+            | OpKind::MemrefLoad
+            | OpKind::MemrefStore
+            | OpKind::VectorLoad
+            | OpKind::VectorStore
+            | OpKind::VectorMaskedLoad
+            | OpKind::VectorMaskedStore
+            | OpKind::VectorGather
+            | OpKind::VectorScatter
+    )
 }
 
 /// The inner loops of a module, in the order of the text.

@@ -1,8 +1,8 @@
 ghost use Rattle.std.specs.Prelude.{◌≡◌, IfOk};
 
 use super::Ty;
-use av_affine::{AffMap, Duplicate, No, Seq, Text, duplicate_all};
-use av_bits::BinOp;
+use av_affine::{AffMap, AffSet, Duplicate, No, Seq, Text, duplicate_all};
+use av_bits::{BinOp, CastOp, Kind9, Pred};
 use std::alloc::{AllocError, Global};
 
 /// A value of a function, by its place in the function's `values`.
@@ -35,6 +35,9 @@ pub enum OpKind {
     FuncReturn,
     ArithConstant(Const),
     ArithBinary(BinOp),
+    ArithCmpi(Pred),
+    ArithSelect,
+    ArithCast(CastOp),
     /// A loop over lower, lower + step, .. below upper; the greatest result of the lower map and the
     /// least of the upper one are its bounds.
     AffineFor {
@@ -42,11 +45,40 @@ pub enum OpKind {
         upper: AffMap,
         step: u64,
     },
+    /// The choice between two regions: the first where all rows of the set hold.
+    AffineIf(AffSet),
     AffineYield,
+    AffineApply(AffMap),
+    /// The least result of the map.
+    AffineMin(AffMap),
+    /// The greatest result of the map.
+    AffineMax(AffMap),
     /// The load of the element at the map's results.
     AffineLoad(AffMap),
     /// The store of its first operand into the element at the map's results.
     AffineStore(AffMap),
+    MemrefLoad,
+    MemrefStore,
+    MemrefDim,
+    ScfFor,
+    ScfYield,
+    VectorLoad,
+    VectorStore,
+    VectorMaskedLoad,
+    VectorMaskedStore,
+    VectorGather,
+    VectorScatter,
+    VectorBroadcast,
+    VectorCreateMask,
+    VectorReduction(Kind9),
+    /// The element or part at a position.
+    VectorExtract(Seq<u16>),
+    /// The first operand put at a position of the second.
+    VectorInsert(Seq<u16>),
+    /// The elements at these places of both operands, one after the other.
+    VectorShuffle(Seq<u16>),
+    VectorStep,
+    VectorVscale,
 }
 
 /// An operation.
@@ -109,14 +141,40 @@ impl Duplicate for OpKind {
             OpKind::FuncReturn => Ok(OpKind::FuncReturn),
             OpKind::ArithConstant(value) => Ok(OpKind::ArithConstant(value.duplicate(alloc)?)),
             OpKind::ArithBinary(op) => Ok(OpKind::ArithBinary(*op)),
+            OpKind::ArithCmpi(pred) => Ok(OpKind::ArithCmpi(*pred)),
+            OpKind::ArithSelect => Ok(OpKind::ArithSelect),
+            OpKind::ArithCast(op) => Ok(OpKind::ArithCast(*op)),
             OpKind::AffineFor { lower, upper, step } => Ok(OpKind::AffineFor {
                 lower: lower.duplicate(alloc)?,
                 upper: upper.duplicate(alloc)?,
                 step: *step,
             }),
+            OpKind::AffineIf(set) => Ok(OpKind::AffineIf(set.duplicate(alloc)?)),
             OpKind::AffineYield => Ok(OpKind::AffineYield),
+            OpKind::AffineApply(map) => Ok(OpKind::AffineApply(map.duplicate(alloc)?)),
+            OpKind::AffineMin(map) => Ok(OpKind::AffineMin(map.duplicate(alloc)?)),
+            OpKind::AffineMax(map) => Ok(OpKind::AffineMax(map.duplicate(alloc)?)),
             OpKind::AffineLoad(map) => Ok(OpKind::AffineLoad(map.duplicate(alloc)?)),
             OpKind::AffineStore(map) => Ok(OpKind::AffineStore(map.duplicate(alloc)?)),
+            OpKind::MemrefLoad => Ok(OpKind::MemrefLoad),
+            OpKind::MemrefStore => Ok(OpKind::MemrefStore),
+            OpKind::MemrefDim => Ok(OpKind::MemrefDim),
+            OpKind::ScfFor => Ok(OpKind::ScfFor),
+            OpKind::ScfYield => Ok(OpKind::ScfYield),
+            OpKind::VectorLoad => Ok(OpKind::VectorLoad),
+            OpKind::VectorStore => Ok(OpKind::VectorStore),
+            OpKind::VectorMaskedLoad => Ok(OpKind::VectorMaskedLoad),
+            OpKind::VectorMaskedStore => Ok(OpKind::VectorMaskedStore),
+            OpKind::VectorGather => Ok(OpKind::VectorGather),
+            OpKind::VectorScatter => Ok(OpKind::VectorScatter),
+            OpKind::VectorBroadcast => Ok(OpKind::VectorBroadcast),
+            OpKind::VectorCreateMask => Ok(OpKind::VectorCreateMask),
+            OpKind::VectorReduction(kind) => Ok(OpKind::VectorReduction(*kind)),
+            OpKind::VectorExtract(at) => Ok(OpKind::VectorExtract(at.duplicate(alloc)?)),
+            OpKind::VectorInsert(at) => Ok(OpKind::VectorInsert(at.duplicate(alloc)?)),
+            OpKind::VectorShuffle(pick) => Ok(OpKind::VectorShuffle(pick.duplicate(alloc)?)),
+            OpKind::VectorStep => Ok(OpKind::VectorStep),
+            OpKind::VectorVscale => Ok(OpKind::VectorVscale),
         }
     }
 }

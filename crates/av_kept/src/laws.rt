@@ -1,14 +1,14 @@
 //! What holds of modules that were elaborated, for the proofs of callers. These functions do nothing.
-ghost use Rattle.av_kept.specs.Laws.{KeptLoopsLaw, NoVectorsLaw, RunnableLaw};
+ghost use Rattle.av_kept.specs.Laws.{KeptLoopsLaw, ScalarModeLaw, WellFormedLaw};
 
-/// No value of a module of a tree is a vector.
-pub fn no_vectors_law()
-    ensures { NoVectorsLaw }
+/// A module of a tree has operations and types of Scalar mode alone.
+pub fn scalar_mode_law()
+    ensures { ScalarModeLaw }
 {}
 
-/// Each function of a module of a tree can be run by the interpreter of scalar modules.
-pub fn runnable_law()
-    ensures { RunnableLaw }
+/// A module of a tree is well formed, so that the interpreter of scalar modules runs it.
+pub fn well_formed_law()
+    ensures { WellFormedLaw }
 {}
 
 /// With all its loops kept and marked, the module of a tree means at each scale what it meant: for all

@@ -11,7 +11,8 @@ use Rattle.av_tree.specs.declared.attribute.Attr.TheVariants as attr
 use Rattle.av_tree.specs.declared.attribute.Named.{Named}
 use Rattle.av_tree.specs.declared.node.Node.{Node}
 use Rattle.av_totree.specs.Names.{Naming, written_type, with_results}
-use Rattle.av_totree.specs.Properties.{kind_name, properties_of, marks_of, typed_value}
+use Rattle.av_totree.specs.Kinds.{kind_name}
+use Rattle.av_totree.specs.Properties.{properties_of, marks_of, typed_value}
 use Rattle.av_totree.specs.Properties as properties
 use Rattle.av_totree.specs.Trees.{Made, Making, in_turn, node_of}
 use Rattle.av_plain.specs.Programs.{Subscript, fixed, variable, plus, minus, Line, constant, sum, load, store}

@@ -20,7 +20,8 @@ use Rattle.av_tree.specs.declared.node.Body.{Body}
 use Rattle.av_tree.specs.declared.written.TypeText.{TypeText}
 use Rattle.av_totree.specs.Maps.{expression_of, map_of}
 use Rattle.av_totree.specs.Names.{Naming, name_of, written_type, result_texts, with_results}
-use Rattle.av_totree.specs.Properties.{kind_name, properties_of, marks_of}
+use Rattle.av_totree.specs.Kinds.{kind_name}
+use Rattle.av_totree.specs.Properties.{properties_of, marks_of}
 use Rattle.av_totree.specs.Trees.{Made, Making, in_turn, make_node, make_body, node_of, body_of}
 use Rattle.av_totree.specs.Types.{type_of}
 use Rattle.av_plain.specs.Programs.{Subscript, fixed, variable, plus, minus}

@@ -7,3 +7,4 @@ pub mod OneStep
 pub mod Walks
 pub mod Works
 pub mod Starts
+pub mod Plains

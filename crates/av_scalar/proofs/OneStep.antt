@@ -10,7 +10,7 @@ pub op_law : (perform : Perform) → OpLaw perform
 unfolding run_op run_region
 op_law perform types op env memory handed =
     ap (λ f. f env memory handed) (fold_out-Op Act (Env → Body) (op_step perform types) region_step op)
-    ∙ ap (λ bodies. after 1 (followed (perform (types_at types (out-Op op).results) (out-Op op).kind (out-Op op).number (values_at env (out-Op op).operands) bodies memory) (behind env op handed)))
+    ∙ ap (λ bodies. after 1 (followed (perform (types_at types (out-Op op).operands) (types_at types (out-Op op).results) (out-Op op).kind (out-Op op).number (values_at env (out-Op op).operands) bodies memory) (behind env op handed)))
     (each_at (run_region perform types) env (out-Op op).regions)
 
 pub region_law : (perform : Perform) → RegionLaw perform

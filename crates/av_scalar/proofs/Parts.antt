@@ -1,21 +1,23 @@
 -- What the work of one operation gives.
 use Rattle.std.proofs.Common.{◌≡◌, ℕ, zero, suc, ◌+◌, List, [], ◌∷◌, length, get_or, drop, map, arith, ap, sym, ◌∙◌, refl, subst}
-use Rattle.std.specs.Prelude.{ℤ, Option, Some, None, Result, Ok, Err}
+use Rattle.std.specs.Prelude.{ℤ, Option, Some, None, Result, Ok, Err, MatchResult}
 use Rattle.std.proofs.lemmas.List.{drop-map, drop-drop}
 use Rattle.av_affine.specs.declared.expression.AffMap.{AffMap}
-use Rattle.av_bits.specs.declared.types.Width.{Width}
-use Rattle.av_bits.specs.declared.types.BinOp.{BinOp}
 use Rattle.av_bits.specs.declared.types.DivideTrap.{DivideTrap}
-use Rattle.av_bits.specs.Scalar.{binary_of}
+use Rattle.av_bits.specs.Pattern.{pattern_of, signed_value}
 use Rattle.av_ir.specs.declared.run.TrapKind.{TrapKind}
 use Rattle.av_ir.specs.declared.run.TrapKind.TheVariants.{Divide, IndexRange, OutOfBounds}
 use Rattle.av_ir.specs.declared.run.RunStop.{RunStop}
 use Rattle.av_ir.specs.declared.run.RunStop.TheVariants.{Trap, OutOfSteps, NoMemory}
-use Rattle.av_ir.specs.Run.{Run, Body, Value, Memory, ends, traps, word, word_of, word_at}
-use Rattle.av_ir.specs.ScalarRun.{gives, low, buffer_of, element_at, evaluated, load_at, loaded, operands_of, perform_binary, perform_loop, quotient_given, store_at, stored, with_element}
+use Rattle.av_ir.specs.Elements.{Element, element_given, elementwise, one}
+use Rattle.av_ir.specs.Run.{Run, Given, Body, Value, Memory, ends, traps, word, word_of, word_at, gives}
+use Rattle.av_ir.specs.ScalarRun.{buffer_of, element_at, evaluated, index_at, load_at, loaded, mapped, operands_of, perform_loop, size_at, size_given, store_at, stored, subscripts, with_element}
+use Rattle.av_scalar.specs.declared.machine.Outcome.{Outcome}
+use Rattle.av_scalar.specs.Machines.{given_with}
 use Rattle.av_scalar.specs.Meeting.{EndsAt, Stops}
 use Rattle.av_scalar.specs.Maps.{StopsAtMap}
 use Rattle.av_scalar.specs.Names.{values}
+use Rattle.av_scalar.proofs.Evaluations.{indices_are}
 
 -- a run that ends or traps at once does so whatever the budget
 pub ends_now : {A : Type 0} (run : Run A) (a : A) → run ≡ ends a 0 → (budget : ℕ) → EndsAt run budget a budget
@@ -30,22 +32,27 @@ word_at-values [] (suc k) = refl
 word_at-values (w ∷ ws) zero = refl
 word_at-values (w ∷ ws) (suc k) = word_at-values ws k
 
--- ---- binary operations
-module _ (number : ℕ) (op : BinOp) (width : Width) (ws : List ℕ) (first second a b : ℕ) (is_first : first ≡ get_or ws 0 0) (is_second : second ≡ get_or ws 1 0) (low_first : a ≡ low width first) (low_second : b ≡ low width second) where
-  same : binary_of op width (low width (word_at (values ws) 0)) (low width (word_at (values ws) 1)) ≡ binary_of op width a b
-  same =
-      ap (λ p. binary_of op width (low width p) (low width (word_at (values ws) 1))) (word_at-values ws 0 ∙ sym is_first)
-      ∙ ap (λ p. binary_of op width (low width first) (low width p)) (word_at-values ws 1 ∙ sym is_second)
-      ∙ ap (λ p. binary_of op width p (low width second)) (sym low_first)
-      ∙ ap (binary_of op width a) (sym low_second)
+-- an answer fits the run of an operation whose end leaves this memory and the whole budget
+abbrev pub Fits : Run Given → Memory → ℕ → Result Outcome RunStop → Type 0
+Fits run memory budget result = MatchResult result (λ o. EndsAt run budget (given_with o memory) budget) (Stops run budget)
 
-  pub combined : (p : ℕ) → binary_of op width a b ≡ Ok p → (memory : Memory) (budget : ℕ)
-      → EndsAt (perform_binary width op number (values ws) memory) budget (record { outcome = word p ∷ []; memory = memory; handed = None }) budget
-  combined p e memory = ends_now (perform_binary width op number (values ws) memory) _ (ap (quotient_given number memory) (same ∙ e))
+-- ---- elements
+pub words_back : (ps : List ℕ) → map word_of (values ps) ≡ ps
+words_back [] = refl
+words_back (p ∷ ps) = ap (λ l. p ∷ l) (words_back ps)
 
-  pub combined_not : (trap : DivideTrap) → binary_of op width a b ≡ Err trap → (memory : Memory) (budget : ℕ)
-      → Stops (perform_binary width op number (values ws) memory) budget (Trap Divide number)
-  combined_not trap e memory = traps_now (perform_binary width op number (values ws) memory) Divide number (ap (quotient_given number memory) (same ∙ e))
+-- what an operation on elements does with words
+pub element_once : (element : Element) (number : ℕ) (ws : List ℕ) (memory : Memory)
+    → element_given number memory (element ws) ≡ elementwise one element number (values ws) memory
+element_once element number ws memory = sym (ap (λ ps. element_given number memory (element ps)) (words_back ws))
+
+pub element_gives : (number : ℕ) (r : Result ℕ DivideTrap) (p : ℕ) → r ≡ Ok p → (memory : Memory) (budget : ℕ)
+    → EndsAt (element_given number memory r) budget (record { outcome = word p ∷ []; memory = memory; handed = None }) budget
+element_gives number r p e memory = ends_now (element_given number memory r) _ (ap (element_given number memory) e)
+
+pub element_traps : (number : ℕ) (r : Result ℕ DivideTrap) (trap : DivideTrap) → r ≡ Err trap → (memory : Memory) (budget : ℕ)
+    → Stops (element_given number memory r) budget (Trap Divide number)
+element_traps number r trap e memory = traps_now (element_given number memory r) Divide number (ap (element_given number memory) e)
 
 -- ---- maps
 -- what asks for results of a map traps where there are none
@@ -79,46 +86,41 @@ module _ (step : ℕ) (body : Body) (number : ℕ) (lower upper : Option (List �
       subst (λ l. Stops (perform_loop step body number l upper carried memory) budget stop) (sym e)
       (map_stops (λ u. perform_loop step body number (Some low) u carried memory) number refl upper stop h budget)
 
--- ---- loads and stores
-module _ (number : ℕ) (map : AffMap) (ws rest : List ℕ) (memory : Memory) (at : List ℤ) where
-  module _ (behind : rest ≡ drop 1 ws) (results : evaluated map (values rest) ≡ Some at) (k : ℕ) (memref : k ≡ get_or ws 0 0) where
-    load_is : load_at number memory (word_at (values ws) 0) (evaluated map (drop 1 (values ws))) ≡ loaded number memory k (element_at memory k at)
-    load_is =
-        ap (λ j. load_at number memory j (evaluated map (drop 1 (values ws)))) (word_at-values ws 0 ∙ sym memref)
-        ∙ ap (λ l. load_at number memory k (evaluated map l)) (sym (ap values behind ∙ values-drop 1 ws))
-        ∙ ap (load_at number memory k) results
+-- ---- a result of a map
+module _ (choose : List ℤ → ℤ) (number : ℕ) (results : Option (List ℤ)) (memory : Memory) where
+  pub mapped_stops : (stop : RunStop) → StopsAtMap number results stop → (budget : ℕ) → Stops (mapped choose number results memory) budget stop
+  mapped_stops stop h = map_stops (λ r. mapped choose number r memory) number refl results stop h
 
-    pub load_gives : (place p : ℕ) → Some place ≡ element_at memory k at → p ≡ get_or (buffer_of memory k).cells place 0 → (budget : ℕ)
-        → EndsAt (load_at number memory (word_at (values ws) 0) (evaluated map (drop 1 (values ws)))) budget (record { outcome = word p ∷ []; memory = memory; handed = None }) budget
-    load_gives place p is read budget =
-        ends_now (load_at number memory (word_at (values ws) 0) (evaluated map (drop 1 (values ws)))) _
-        (load_is ∙ ap (loaded number memory k) (sym is) ∙ ap (λ q. gives (word q ∷ []) memory) (sym read)) budget
+  pub mapped_gives : (zs : List ℤ) → results ≡ Some zs → (p : ℕ) → p ≡ pattern_of 64 (choose zs) → (budget : ℕ)
+      → EndsAt (mapped choose number results memory) budget (record { outcome = word p ∷ []; memory = memory; handed = None }) budget
+  mapped_gives zs is p same =
+      ends_now (mapped choose number results memory) _ (ap (λ r. mapped choose number r memory) is ∙ ap (λ q. gives (word q ∷ []) memory) (sym same))
 
-    pub load_traps : None ≡ element_at memory k at → (budget : ℕ)
-        → Stops (load_at number memory (word_at (values ws) 0) (evaluated map (drop 1 (values ws)))) budget (Trap OutOfBounds number)
-    load_traps is budget =
-        traps_now (load_at number memory (word_at (values ws) 0) (evaluated map (drop 1 (values ws)))) OutOfBounds number (load_is ∙ ap (loaded number memory k) (sym is)) budget
+-- ---- the elements of buffers
+module _ (number : ℕ) (memory : Memory) (k : ℕ) (at : List ℤ) where
+  pub loads : (place p : ℕ) → Some place ≡ element_at memory k at → p ≡ get_or (buffer_of memory k).cells place 0 → (budget : ℕ)
+      → EndsAt (load_at number memory k (Some at)) budget (record { outcome = word p ∷ []; memory = memory; handed = None }) budget
+  loads place p is read = ends_now (load_at number memory k (Some at)) _ (ap (loaded number memory k) (sym is) ∙ ap (λ q. gives (word q ∷ []) memory) (sym read))
 
-  module _ (behind : rest ≡ drop 2 ws) (results : evaluated map (values rest) ≡ Some at) (k : ℕ) (memref : k ≡ get_or ws 1 0) where
-    store_is : (p : ℕ) → p ≡ get_or ws 0 0
-        → store_at number memory (word_at (values ws) 1) (word_at (values ws) 0) (evaluated map (drop 2 (values ws))) ≡ stored number memory k p (element_at memory k at)
-    store_is p first =
-        ap (λ j. store_at number memory j (word_at (values ws) 0) (evaluated map (drop 2 (values ws)))) (word_at-values ws 1 ∙ sym memref)
-        ∙ ap (λ q. store_at number memory k q (evaluated map (drop 2 (values ws)))) (word_at-values ws 0 ∙ sym first)
-        ∙ ap (λ l. store_at number memory k p (evaluated map l)) (sym (ap values behind ∙ values-drop 2 ws))
-        ∙ ap (store_at number memory k p) results
+  pub loads_not : None ≡ element_at memory k at → (budget : ℕ) → Stops (load_at number memory k (Some at)) budget (Trap OutOfBounds number)
+  loads_not is = traps_now (load_at number memory k (Some at)) OutOfBounds number (ap (loaded number memory k) (sym is))
 
-    pub store_gives : (place p : ℕ) → Some place ≡ element_at memory k at → p ≡ get_or ws 0 0 → (after : Memory) → after ≡ with_element memory k place p → (budget : ℕ)
-        → EndsAt (store_at number memory (word_at (values ws) 1) (word_at (values ws) 0) (evaluated map (drop 2 (values ws)))) budget (record { outcome = []; memory = after; handed = None }) budget
-    store_gives place p is first after put budget =
-        ends_now (store_at number memory (word_at (values ws) 1) (word_at (values ws) 0) (evaluated map (drop 2 (values ws)))) _
-        (store_is p first ∙ ap (stored number memory k p) (sym is) ∙ ap (gives []) (sym put)) budget
+  module _ (p : ℕ) where
+    pub stores : (place : ℕ) → Some place ≡ element_at memory k at → (after : Memory) → after ≡ with_element memory k place p → (budget : ℕ)
+        → EndsAt (store_at number memory k p (Some at)) budget (record { outcome = []; memory = after; handed = None }) budget
+    stores place is after put = ends_now (store_at number memory k p (Some at)) _ (ap (stored number memory k p) (sym is) ∙ ap (gives []) (sym put))
 
-    pub store_traps : None ≡ element_at memory k at → (budget : ℕ)
-        → Stops (store_at number memory (word_at (values ws) 1) (word_at (values ws) 0) (evaluated map (drop 2 (values ws)))) budget (Trap OutOfBounds number)
-    store_traps is budget =
-        traps_now (store_at number memory (word_at (values ws) 1) (word_at (values ws) 0) (evaluated map (drop 2 (values ws)))) OutOfBounds number
-        (store_is (get_or ws 0 0) refl ∙ ap (stored number memory k (get_or ws 0 0)) (sym is)) budget
+    pub stores_not : None ≡ element_at memory k at → (budget : ℕ) → Stops (store_at number memory k p (Some at)) budget (Trap OutOfBounds number)
+    stores_not is = traps_now (store_at number memory k p (Some at)) OutOfBounds number (ap (stored number memory k p) (sym is))
+
+-- a load or store at the results of a map, or at operands, behind the first operands
+pub results_behind : (m : AffMap) (n : ℕ) (ws rest : List ℕ) (at : List ℤ) → rest ≡ drop n ws → evaluated m (values rest) ≡ Some at
+    → Some at ≡ evaluated m (drop n (values ws))
+results_behind m n ws rest at behind results = sym results ∙ ap (evaluated m) (ap values behind ∙ values-drop n ws)
+
+pub subscripts_behind : (n : ℕ) (ws rest : List ℕ) (at : List ℤ) → rest ≡ drop n ws → at ≡ map (signed_value 64) rest
+    → Some at ≡ Some (subscripts (drop n (values ws)))
+subscripts_behind n ws rest at behind results = ap Some (results ∙ sym (indices_are rest) ∙ ap subscripts (ap values behind ∙ values-drop n ws))
 
 -- where a map at operands behind the first ones stops
 pub load_stops : (number : ℕ) (map : AffMap) (ws rest : List ℕ) (memory : Memory) (k : ℕ) (stop : RunStop) → rest ≡ drop 1 ws
@@ -132,3 +134,18 @@ pub store_stops : (number : ℕ) (map : AffMap) (ws rest : List ℕ) (memory : M
 store_stops number map ws rest memory k p stop behind h budget =
     subst (λ l. Stops (store_at number memory k p (evaluated map l)) budget stop) (ap values behind ∙ values-drop 2 ws)
     (map_stops (store_at number memory k p) number refl (evaluated map (values rest)) stop h budget)
+
+-- ---- sizes
+pub sizes_give : (number : ℕ) (sizes : Option ℕ) (memory : Memory) (p : ℕ) → Some p ≡ sizes → (budget : ℕ)
+    → EndsAt (size_given number sizes memory) budget (record { outcome = word p ∷ []; memory = memory; handed = None }) budget
+sizes_give number sizes memory p is = ends_now (size_given number sizes memory) _ (ap (λ s. size_given number s memory) (sym is))
+
+pub sizes_stop : (number : ℕ) (sizes : Option ℕ) (memory : Memory) → None ≡ sizes → (budget : ℕ) → Stops (size_given number sizes memory) budget (Trap OutOfBounds number)
+sizes_stop number sizes memory is = traps_now (size_given number sizes memory) OutOfBounds number (ap (λ s. size_given number s memory) (sym is))
+
+-- the size that operands ask for
+pub size_asked : (memory : Memory) (ws : List ℕ) (k d : ℕ) → k ≡ get_or ws 0 0 → d ≡ get_or ws 1 0
+    → size_at (buffer_of memory k).sizes (signed_value 64 d) ≡ size_at (buffer_of memory (word_at (values ws) 0)).sizes (index_at (values ws) 1)
+size_asked memory ws k d memref dimension =
+    ap (λ j. size_at (buffer_of memory j).sizes (signed_value 64 d)) (memref ∙ sym (word_at-values ws 0))
+    ∙ ap (λ e. size_at (buffer_of memory (word_at (values ws) 0)).sizes (signed_value 64 e)) (dimension ∙ sym (word_at-values ws 1))

@@ -2,5 +2,4 @@ pub mod Meeting
 pub mod Names
 pub mod Stores
 pub mod Maps
-pub mod Runnable
 pub mod Machines

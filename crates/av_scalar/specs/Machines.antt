@@ -1,6 +1,8 @@
 -- An interpreter's state and its answers in the terms of a run.
 use Rattle.std.specs.Prelude.{ℕ, List, [], ◌∷◌, map, Option, Some, None}
 use Rattle.av_ir.specs.declared.ty.Ty.{Ty}
+use Rattle.av_ir.specs.declared.module.OpKind.{OpKind}
+use Rattle.av_ir.specs.declared.module.OpKind.TheVariants.{AffineFor, AffineIf}
 use Rattle.av_ir.specs.declared.module.Op.{Op, out-Op}
 use Rattle.av_ir.specs.declared.module.Region.{Region}
 use Rattle.av_ir.specs.Run.{Value, Memory, Run, Given, Ending, Body, Env, State, Act, Perform, types_at, run_op, run_region, run_acts}
@@ -17,7 +19,13 @@ bodies_of perform types regions env = map (λ region. run_region perform types r
 -- the work of an operation with these operands in an environment
 abbrev pub work_of : Perform → List Ty → Op → List Value → Env → Memory → Run Given
 work_of perform types op operands env memory =
-    perform (types_at types (out-Op op).results) (out-Op op).kind (out-Op op).number operands (bodies_of perform types (out-Op op).regions env) memory
+    perform (types_at types (out-Op op).operands) (types_at types (out-Op op).results) (out-Op op).kind (out-Op op).number operands (bodies_of perform types (out-Op op).regions env) memory
+
+-- the kinds of operations without regions
+abbrev pub HasNoRegions : OpKind → Type 0
+HasNoRegions (AffineFor lower upper step) = ⊥
+HasNoRegions (AffineIf set) = ⊥
+HasNoRegions kind = Unit {0}
 
 -- operations in order
 abbrev pub acts_of : Perform → List Ty → List Op → List Act

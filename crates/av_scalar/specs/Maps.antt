@@ -1,18 +1,19 @@
 -- The maps that a run evaluates.
-use Rattle.std.specs.Prelude.{◌≡◌, ◌≤◌, ℕ, ℤ, length, List, Option, Some, None}
-use Rattle.std.specs.List.{All}
-use Rattle.av_affine.specs.declared.expression.AffMap.{AffMap}
-use Rattle.av_affine.specs.Limits.{Admissible}
+use Rattle.std.specs.Prelude.{◌≡◌, ℕ, ℤ, List, Option, Some, None}
 use Rattle.av_bits.specs.Pattern.{pattern_of}
 use Rattle.av_ir.specs.declared.run.TrapKind.TheVariants.{IndexRange}
 use Rattle.av_ir.specs.declared.run.RunStop.{RunStop}
 use Rattle.av_ir.specs.declared.run.RunStop.TheVariants.{Trap, OutOfSteps, NoMemory}
-use Rattle.av_ir.specs.ScalarRun.{greatest, least, turns}
+use Rattle.av_ir.specs.ScalarRun.{first_result, greatest, least, turns}
 use Rattle.av_scalar.specs.declared.bounds.Turns.{Turns}
+use Rattle.av_scalar.specs.declared.bounds.Choice.{Choice}
+use Rattle.av_scalar.specs.declared.bounds.Choice.TheVariants.{First, Least, Greatest}
 
--- a map of at most 8 results, each affine and within the limits of its size
-abbrev pub IsUsable : AffMap → Type 0
-IsUsable m = All Admissible m.results × (length m.results ≤ 8)
+-- the result of a map that is meant
+abbrev pub choice_of : Choice → List ℤ → ℤ
+choice_of First = first_result
+choice_of Least = least
+choice_of Greatest = greatest
 
 -- why an evaluation of a map by an operation of this number stops, where these are its results
 abbrev pub StopsAtMap : ℕ → Option (List ℤ) → RunStop → Type 0

@@ -2,15 +2,16 @@
 
 ghost use Rattle.std.specs.Prelude.{◌≡◌, ℕ, List, drop, IfErr, IfOk};
 ghost use Rattle.av_bits.specs.Pattern.{pattern_of};
-ghost use Rattle.av_ir.specs.ScalarRun.{evaluated, greatest, least, operands_of, perform_loop, turns};
+ghost use Rattle.av_ir.specs.ScalarRun.{evaluated, first_result, greatest, least, operands_of, perform_loop, turns};
 ghost use Rattle.av_ir.specs.Run.{Body, Memory, Value};
-ghost use Rattle.av_scalar.specs.Maps.{IsTurns, IsUsable};
+ghost use Rattle.av_ir.specs.WellFormed.{IsUsable};
+ghost use Rattle.av_scalar.specs.Maps.{IsTurns, choice_of};
 ghost use Rattle.av_scalar.specs.Meeting.{Stops};
 ghost use Rattle.av_scalar.specs.Names.{values};
 
 use super::maps::{behind, evaluate};
+use super::words::index_word;
 use av_affine::{AffMap, No, Seq};
-use av_bits::{Width, wrap};
 use av_ir::RunStop;
 use std::alloc::{AllocError, Global};
 
@@ -21,6 +22,38 @@ pub struct Turns {
     pub first: u64,
     pub step: u64,
     pub count: u64,
+}
+
+/// Which result of a map is meant.
+#[derive(Clone, Copy, Debug, PartialEq, Eq)]
+pub enum Choice {
+    First,
+    Least,
+    Greatest,
+}
+
+// The number that is meant, and 0 if there is none.
+fn chosen(choice: Choice, numbers: &[i64]) -> i64
+    ensures { result ≡ choice_of choice numbers.now }
+{
+    match choice {
+        Choice::First => first(numbers),
+        Choice::Least => least(numbers),
+        Choice::Greatest => greatest(numbers),
+    }
+}
+
+/// The word of the number that is meant.
+pub fn chosen_word(choice: Choice, numbers: &[i64]) -> u64
+    ensures { result ≡ pattern_of 64 (choice_of choice numbers.now) }
+{
+    index_word(chosen(choice, numbers))
+}
+
+fn first(numbers: &[i64]) -> i64
+    ensures { result ≡ first_result numbers.now }
+{
+    if numbers.is_empty() { 0 } else { numbers[0] }
 }
 
 // The greatest number, and 0 if there is none.
@@ -68,7 +101,7 @@ fn between(lower: &[i64], upper: &[i64], step: u64) -> Turns
 {
     let first = greatest(lower);
     Turns {
-        first: wrap(Width::W64, i128::from(first)),
+        first: index_word(first),
         step,
         count: count(first, least(upper), step),
     }

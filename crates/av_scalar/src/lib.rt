@@ -2,15 +2,15 @@
 #![tactic(auto)]
 
 mod bounds;
+mod elements;
 mod machine;
 mod maps;
 mod memory;
 mod names;
 mod operations;
+mod plain;
 mod running;
 mod scalar;
-mod testing;
 mod words;
 
 pub use scalar::run_scalar;
-pub use testing::is_runnable;

@@ -1,6 +1,6 @@
 //! A run under way.
 
-ghost use Rattle.std.specs.Prelude.{◌≡◌, ◌+◌, [], ◌∷◌, OnOk, IfErr, IfOk};
+ghost use Rattle.std.specs.Prelude.{◌≡◌, ◌+◌, [], ◌∷◌, None, Some, OnOk, IfErr, IfOk};
 ghost use Rattle.av_ir.specs.Run.{handed_on};
 ghost use Rattle.av_scalar.specs.Machines.{handed_of};
 ghost use Rattle.av_scalar.specs.Names.{values};
@@ -26,6 +26,26 @@ pub struct Outcome {
 }
 
 impl Outcome {
+    /// No result, and no end of the region.
+    pub fn nothing(alloc: Global) -> Outcome
+        ensures { result ≡ record { words = []; handed = None } }
+    {
+        Outcome {
+            words: Seq::new(alloc),
+            handed: None,
+        }
+    }
+
+    /// What ends the region and hands words on.
+    pub fn handing(alloc: Global, words: Seq<u64>) -> Outcome
+        ensures { result ≡ record { words = []; handed = Some words } }
+    {
+        Outcome {
+            words: Seq::new(alloc),
+            handed: Some(words),
+        }
+    }
+
     /// One result, without an end of the region.
     ///
     /// # Errors

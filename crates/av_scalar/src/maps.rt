@@ -2,11 +2,12 @@
 
 ghost use Rattle.std.specs.Prelude.{◌≡◌, drop, map, take, IfErr, IfOk, Some};
 ghost use Rattle.av_bits.specs.Pattern.{signed_value};
-ghost use Rattle.av_ir.specs.ScalarRun.{evaluated};
-ghost use Rattle.av_scalar.specs.Maps.{IsUsable, StopsAtMap};
+ghost use Rattle.av_ir.specs.ScalarRun.{evaluated, set_holds};
+ghost use Rattle.av_ir.specs.WellFormed.{IsUsable, IsUsableSet};
+ghost use Rattle.av_scalar.specs.Maps.{StopsAtMap};
 ghost use Rattle.av_scalar.specs.Names.{values};
 
-use av_affine::{AffMap, No, eval};
+use av_affine::{AffMap, AffSet, No, eval, holds};
 use av_bits::{Width, signed};
 use av_ir::{RunStop, TrapKind};
 use smallvec::SmallVec;
@@ -36,8 +37,12 @@ pub fn behind<T>(items: &[T], count: u64) -> &[T]
     }
 }
 
-// The signed numbers for which words stand.
-fn indices(alloc: Global, words: &[u64]) -> Result<Vec<i64>, AllocError>
+/// The signed numbers for which words stand.
+///
+/// # Errors
+///
+/// Want of memory.
+pub fn indices(alloc: Global, words: &[u64]) -> Result<Vec<i64>, AllocError>
     ensures { IfOk result (λ v. v.items ≡ map (signed_value 64) words.now) }
 {
     words
@@ -68,4 +73,19 @@ pub fn evaluate(
         Ok(results) => Ok(results),
         Err(_) => Err(RunStop::Trap(TrapKind::IndexRange, number)),
     }
+}
+
+/// Whether a set holds at the words of its operands, the dimensions first.
+///
+/// # Errors
+///
+/// Want of memory.
+pub fn test(alloc: Global, set: &AffSet, operands: &[u64]) -> Result<bool, AllocError>
+    requires { IsUsableSet set.now }
+    ensures { IfOk result (λ held. held ≡ set_holds set.now (values operands.now)) }
+{
+    let indices = indices(alloc, operands)?;
+    let dims = ahead(&indices, set.dims);
+    let syms = ahead(behind(&indices, set.dims), set.syms);
+    Ok(holds(set, dims, syms))
 }

@@ -1,13 +1,15 @@
 //! The elements of buffers, by memref argument and place.
 
 ghost use Rattle.std.specs.Prelude.{◌≡◌, ◌≤◌, ◌^◌, slice_index_or};
+ghost use Rattle.av_bits.specs.Pattern.{signed_value};
 ghost use Rattle.av_shapes.specs.Shape.{product};
 ghost use Rattle.av_ir.specs.Places.{place_of};
-ghost use Rattle.av_ir.specs.ScalarRun.{buffer_of, element_at, with_element};
+ghost use Rattle.av_ir.specs.ScalarRun.{buffer_of, element_at, size_at, with_element};
 ghost use Rattle.av_scalar.specs.Stores.{AreSmall, memory_of, sizes_of};
 
 use super::words::{put, word_at};
 use av_affine::{No, Seq};
+use av_bits::{Width, signed};
 use av_ir::{Buffer, Elem, Ty, place_of};
 
 /// What the memref arguments of a run stand for.
@@ -17,6 +19,21 @@ pub struct Standing {
     pub at: Seq<No>,
     /// The type of each.
     pub kinds: Seq<Ty>,
+}
+
+// The size of a dimension, if it is there.
+fn size_in(sizes: &[u64], dimension: i64) -> Option<u64>
+    ensures { result ≡ size_at sizes.now dimension }
+{
+    if dimension < 0 {
+        return None;
+    }
+    let place = dimension.unsigned_abs() as usize;
+    if place < sizes.len() {
+        Some(sizes[place])
+    } else {
+        None
+    }
 }
 
 impl Standing {
@@ -49,6 +66,18 @@ impl Standing {
             self.place_in(memref, memory[buffer].sizes.as_slice(), at)
         } else {
             self.place_in(memref, &[], at)
+        }
+    }
+
+    /// The size of a dimension of the buffer of a memref argument, if it is there.
+    pub fn size(&self, memory: &Vec<Buffer>, memref: u64, dimension: u64) -> Option<u64>
+        ensures { result ≡ size_at (buffer_of (memory_of self.now memory.now.items) memref).sizes (signed_value 64 dimension) }
+    {
+        let buffer = self.buffer(memref);
+        if buffer < memory.len() {
+            size_in(memory[buffer].sizes.as_slice(), signed(Width::W64, dimension))
+        } else {
+            None
         }
     }
 

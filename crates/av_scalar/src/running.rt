@@ -1,20 +1,21 @@
 //! The walk over operations, regions and turns of loops.
 
-ghost use Rattle.std.specs.Prelude.{◌≡◌, ℕ, ℤ, List, [], length, MatchResult, OnOk};
+ghost use Rattle.std.specs.Prelude.{◌≡◌, ℕ, ℤ, if◌then◌else◌, List, [], length, MatchResult, OnOk};
 ghost use Rattle.std.specs.List.{All};
 ghost use Rattle.av_bits.specs.Pattern.{pattern_of};
 ghost use Rattle.av_ir.specs.Run.{Value, handed_on, run_acts, run_op, run_region};
-ghost use Rattle.av_ir.specs.ScalarRun.{first_body, loop_from, perform};
+ghost use Rattle.av_ir.specs.ScalarRun.{first_body, loop_from, perform, second_body};
+ghost use Rattle.av_ir.specs.WellFormed.{IsWellFormedOp, IsWellFormedRegion};
 ghost use Rattle.av_scalar.specs.Machines.{acts_of, bodies_of, ending_of, given_with, handed_of, memory_in, state_of, work_of};
 ghost use Rattle.av_scalar.specs.Meeting.{EndsAt, Stops};
 ghost use Rattle.av_scalar.specs.Names.{Since, env_of, values};
-ghost use Rattle.av_scalar.specs.Runnable.{IsRunnable, IsRunnableRegion};
 ghost use Rattle.av_scalar.specs.Stores.{AreSmall, sizes_of};
 
 use super::bounds::{Turns, carried, turns_of};
 use super::machine::{Machine, Outcome, handed_on, in_front, spend};
+use super::maps::{behind, test};
 use super::memory::Standing;
-use super::operations::{combine, give_constant, load, result_width, store};
+use super::plain::plain_work;
 use av_affine::Seq;
 use av_ir::{Op, OpKind, Region, RunStop, Ty};
 use std::alloc::Global;
@@ -28,7 +29,7 @@ fn run_op(
     op: &Op,
     machine: &mut Machine,
 ) -> Result<Option<Seq<u64>>, RunStop>
-    requires runnable { IsRunnable (length machine.old.names.words) op.now }
+    requires formed { IsWellFormedOp (length machine.old.names.words) op.now }
     requires small { AreSmall machine.old.memory.items }
     ensures meets { (handed : List Value) → MatchResult result
         (λ own. EndsAt (run_op perform types.now op.now (env_of machine.old.names) (memory_in standing.now machine.old) handed) machine.old.left
@@ -56,7 +57,7 @@ fn work(
     operands: Seq<u64>,
     machine: &mut Machine,
 ) -> Result<Outcome, RunStop>
-    requires runnable { IsRunnable (length machine.old.names.words) op.now }
+    requires formed { IsWellFormedOp (length machine.old.names.words) op.now }
     requires small { AreSmall machine.old.memory.items }
     ensures meets { MatchResult result
         (λ o. EndsAt (work_of perform types.now op.now (values operands) (env_of machine.old.names) (memory_in standing.now machine.old)) machine.old.left
@@ -65,18 +66,9 @@ fn work(
     ensures names { OnOk result (machine.new.names ≡ machine.old.names) }
     ensures sizes { OnOk result (sizes_of machine.new.memory.items ≡ sizes_of machine.old.memory.items) }
 {
-    let number = op.number;
     match &op.kind {
-        OpKind::FuncReturn | OpKind::AffineYield => Ok(Outcome {
-            words: Seq::new(alloc),
-            handed: Some(operands),
-        }),
-        OpKind::ArithConstant(value) => give_constant(alloc, value),
-        OpKind::ArithBinary(operation) => {
-            let width = result_width(types, op.results.as_slice());
-            combine(alloc, number, *operation, width, operands.as_slice())
-        }
         OpKind::AffineFor { lower, upper, step } => {
+            let number = op.number;
             let turns = turns_of(alloc, number, lower, upper, *step, operands.as_slice())?;
             let carried = carried(alloc, lower, upper, operands.as_slice())?;
             let regions = op.regions.as_slice();
@@ -86,22 +78,16 @@ fn work(
                 handed: None,
             })
         }
-        OpKind::AffineLoad(map) => load(
-            alloc,
-            number,
-            map,
-            operands.as_slice(),
-            standing,
-            &machine.memory,
-        ),
-        OpKind::AffineStore(map) => store(
-            alloc,
-            number,
-            map,
-            operands.as_slice(),
-            standing,
-            &mut machine.memory,
-        ),
+        OpKind::AffineIf(set) => {
+            let held = test(alloc, set, operands.as_slice())?;
+            let regions = op.regions.as_slice();
+            let words = run_branch(alloc, types, standing, regions, held, machine)?;
+            Ok(Outcome {
+                words,
+                handed: None,
+            })
+        }
+        _ => plain_work(alloc, types, standing, op, operands, &mut machine.memory),
     }
 }
 
@@ -116,7 +102,7 @@ fn run_turns(
     carried: Seq<u64>,
     machine: &mut Machine,
 ) -> Result<Seq<u64>, RunStop>
-    requires runnable { All (IsRunnableRegion (length machine.old.names.words)) regions.now }
+    requires formed { All (IsWellFormedRegion (length machine.old.names.words)) regions.now }
     requires small { AreSmall machine.old.memory.items }
     ensures meets { (first : ℤ) → turns.now.first ≡ pattern_of 64 first → MatchResult result
         (λ ps. EndsAt (loop_from (first_body (bodies_of perform types.now regions.now (env_of machine.old.names))) turns.now.step turns.now.count first (values carried) (memory_in standing.now machine.old)) machine.old.left
@@ -136,6 +122,32 @@ fn run_turns(
     Ok(carried)
 }
 
+// The first of the regions where the set held, and else the second.
+#[cycle(run)]
+fn run_branch(
+    alloc: Global,
+    types: &[Ty],
+    standing: &Standing,
+    regions: &[Region],
+    held: bool,
+    machine: &mut Machine,
+) -> Result<Seq<u64>, RunStop>
+    requires formed { All (IsWellFormedRegion (length machine.old.names.words)) regions.now }
+    requires small { AreSmall machine.old.memory.items }
+    ensures meets { MatchResult result
+        (λ ps. EndsAt ((if held then first_body (bodies_of perform types.now regions.now (env_of machine.old.names)) else second_body (bodies_of perform types.now regions.now (env_of machine.old.names))) [] (memory_in standing.now machine.old)) machine.old.left
+        (ending_of standing.now machine.new ps) machine.new.left)
+        (Stops ((if held then first_body (bodies_of perform types.now regions.now (env_of machine.old.names)) else second_body (bodies_of perform types.now regions.now (env_of machine.old.names))) [] (memory_in standing.now machine.old)) machine.old.left) }
+    ensures names { OnOk result (machine.new.names ≡ machine.old.names) }
+    ensures sizes { OnOk result (sizes_of machine.new.memory.items ≡ sizes_of machine.old.memory.items) }
+{
+    if held {
+        run_body(alloc, types, standing, regions, &[], machine)
+    } else {
+        run_body(alloc, types, standing, behind(regions, 1), &[], machine)
+    }
+}
+
 // The first of the regions, if there is one.
 #[cycle(run)]
 fn run_body(
@@ -146,7 +158,7 @@ fn run_body(
     args: &[u64],
     machine: &mut Machine,
 ) -> Result<Seq<u64>, RunStop>
-    requires runnable { All (IsRunnableRegion (length machine.old.names.words)) regions.now }
+    requires formed { All (IsWellFormedRegion (length machine.old.names.words)) regions.now }
     requires small { AreSmall machine.old.memory.items }
     ensures meets { MatchResult result
         (λ ps. EndsAt (first_body (bodies_of perform types.now regions.now (env_of machine.old.names)) (values args.now) (memory_in standing.now machine.old)) machine.old.left
@@ -172,7 +184,7 @@ pub fn run_region(
     args: &[u64],
     machine: &mut Machine,
 ) -> Result<Seq<u64>, RunStop>
-    requires runnable { IsRunnableRegion (length machine.old.names.words) region.now }
+    requires formed { IsWellFormedRegion (length machine.old.names.words) region.now }
     requires small { AreSmall machine.old.memory.items }
     ensures meets { MatchResult result
         (λ ps. EndsAt (run_region perform types.now region.now (env_of machine.old.names) (values args.now) (memory_in standing.now machine.old)) machine.old.left
@@ -197,7 +209,7 @@ fn run_ops(
     ops: &[Op],
     machine: &mut Machine,
 ) -> Result<Seq<u64>, RunStop>
-    requires runnable { All (IsRunnable (length machine.old.names.words)) ops.now }
+    requires formed { All (IsWellFormedOp (length machine.old.names.words)) ops.now }
     requires small { AreSmall machine.old.memory.items }
     ensures meets { MatchResult result
         (λ ps. EndsAt (run_acts (acts_of perform types.now ops.now) (env_of machine.old.names) (memory_in standing.now machine.old) []) machine.old.left

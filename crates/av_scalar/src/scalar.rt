@@ -6,9 +6,9 @@ ghost use Rattle.av_ir.specs.declared.module.Region.{out-Region};
 ghost use Rattle.av_ir.specs.Run.{types_at};
 ghost use Rattle.av_ir.specs.ScalarRun.{argument_values, memref_types, run_scalar_of};
 ghost use Rattle.av_ir.specs.Values.{Fits};
+ghost use Rattle.av_ir.specs.WellFormed.{IsScalarModule, IsWellFormedFunc, WellFormed};
 ghost use Rattle.av_scalar.specs.Meeting.{Meets};
 ghost use Rattle.av_scalar.specs.Names.{values};
-ghost use Rattle.av_scalar.specs.Runnable.{IsRunnableFunc};
 
 use super::machine::Machine;
 use super::memory::Standing;
@@ -64,7 +64,7 @@ fn add_memref(alloc: Global, kinds: &mut Seq<Ty>, ty: &Ty) -> Result<(), AllocEr
 // The run of a function.
 fn run_func(alloc: Global, f: &Func, args: Args, steps: u64) -> Result<Ended, RunStop>
     requires fits { Fits f.now args }
-    requires runnable { IsRunnableFunc f.now }
+    requires formed { IsWellFormedFunc f.now }
     ensures { Meets (run_scalar_of f.now args) steps result }
 {
     let types = f.values.as_slice();
@@ -112,7 +112,8 @@ pub fn run_scalar(
 ) -> Result<Ended, RunStop>
     requires place { func < length m.now.funcs }
     requires fits { (d : Func) → Fits (slice_index_or m.now.funcs func d) args }
-    requires runnable { (d : Func) → IsRunnableFunc (slice_index_or m.now.funcs func d) }
+    requires formed { WellFormed m.now }
+    requires scalar { IsScalarModule m.now }
     ensures { (d : Func) → Meets (run_scalar_of (slice_index_or m.now.funcs func d) args) steps result }
 {
     run_func(alloc, &m.funcs.as_slice()[func as usize], args, steps)

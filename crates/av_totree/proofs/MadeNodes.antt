@@ -9,7 +9,8 @@ use Rattle.av_tree.specs.declared.node.Node.{Node, Node-F, out-Node, roll-Node, 
 use Rattle.av_tree.specs.declared.node.Body.{Body, roll-Body}
 use Rattle.av_tree.specs.declared.node.BodyArg.{BodyArg}
 use Rattle.av_totree.specs.Names.{Naming, name_of, written_type, result_texts, with_results}
-use Rattle.av_totree.specs.Properties.{kind_name, properties_of, marks_of}
+use Rattle.av_totree.specs.Kinds.{kind_name}
+use Rattle.av_totree.specs.Properties.{properties_of, marks_of}
 use Rattle.av_totree.specs.Trees.{Made, Making, in_turn, make_argument, make_node, make_body, whole_node, node_of, body_of}
 
 pub any_default : {A : Type 0} (xs : List A) (i : ℕ) (d e : A) → i < length xs → get_or xs i d ≡ get_or xs i e

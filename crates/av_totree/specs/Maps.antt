@@ -1,4 +1,4 @@
--- Maps as they are written, their parameters by name.
+-- Maps and sets as they are written, their parameters by name.
 use Rattle.std.specs.Prelude.{ℕ, List, map, codes}
 use Rattle.std.specs.List.{range_with_len}
 use Rattle.av_affine.specs.declared.expression.Leaf.{Leaf}
@@ -6,9 +6,13 @@ use Rattle.av_affine.specs.declared.expression.Leaf.TheVariants.{Dim, Sym}
 use Rattle.av_affine.specs.declared.expression.Expr.{Expr, Expr-F, fold-Expr}
 use Rattle.av_affine.specs.declared.expression.Expr.TheOpen.{Param, Const, Neg, Add, Sub, Mul, Mod, Floor, Ceil}
 use Rattle.av_affine.specs.declared.expression.AffMap.{AffMap}
+use Rattle.av_affine.specs.declared.expression.AffSet.{AffSet}
+use Rattle.av_affine.specs.declared.expression.SetRow.{SetRow}
 use Rattle.av_tree.specs.declared.written.ExprText.{ExprText}
 use Rattle.av_tree.specs.declared.written.ExprText.TheVariants as text
 use Rattle.av_tree.specs.declared.written.MapText.{MapText}
+use Rattle.av_tree.specs.declared.written.RowText.{RowText}
+use Rattle.av_tree.specs.declared.written.SetText.{SetText}
 use Rattle.av_totree.specs.Texts.{numbered}
 
 -- the parameters are d0, d1, .. and s0, s1, ..
@@ -45,4 +49,14 @@ map_of m = record {
   dims = names_of dimension_name m.dims;
   syms = names_of symbol_name m.syms;
   results = map expression_of m.results;
+}
+
+abbrev pub row_of : SetRow → RowText
+row_of row = record { left = expression_of row.left; equal = row.equal }
+
+abbrev pub set_of : AffSet → SetText
+set_of set = record {
+  dims = names_of dimension_name set.dims;
+  syms = names_of symbol_name set.syms;
+  rows = map row_of set.rows;
 }

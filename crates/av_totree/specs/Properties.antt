@@ -1,53 +1,24 @@
--- What operations say besides their operands: names, properties and marks.
+-- What operations say besides their operands: properties and marks.
 use Rattle.std.specs.Prelude.{ℕ, ◌+◌, pos, ◌-ℤ◌, Bool, if◌then◌else◌, List, [], ◌∷◌, ◌++◌, map, slice_get, Option, Some, None, codes}
 use Rattle.av_affine.specs.declared.expression.AffMap.{AffMap}
-use Rattle.av_bits.specs.declared.types.BinOp.{BinOp}
-use Rattle.av_bits.specs.declared.types.BinOp.TheVariants.{Addi, Subi, Muli, Divsi, Divui, Remsi, Remui, Floordivsi, Ceildivsi, Ceildivui, Andi, Ori, Xori, Shli, Shrsi, Shrui, Minsi, Minui, Maxsi, Maxui}
+use Rattle.av_bits.specs.declared.types.Pred.{Pred}
+use Rattle.av_bits.specs.declared.types.Pred.TheVariants.{Eq, Ne, Slt, Sle, Sgt, Sge, Ult, Ule, Ugt, Uge}
+use Rattle.av_bits.specs.declared.types.Kind9.{Kind9}
 use Rattle.av_ir.specs.declared.ty.Ty.{Ty}
 use Rattle.av_ir.specs.declared.module.ValueId.{ValueId}
 use Rattle.av_ir.specs.declared.module.Const.{Const}
 use Rattle.av_ir.specs.declared.module.Marks.{Marks}
 use Rattle.av_ir.specs.declared.module.OpKind.{OpKind}
-use Rattle.av_ir.specs.declared.module.OpKind.TheVariants.{FuncReturn, ArithConstant, ArithBinary, AffineFor, AffineYield, AffineLoad, AffineStore}
+use Rattle.av_ir.specs.declared.module.OpKind.TheVariants.{ArithConstant, ArithCmpi, AffineFor, AffineIf, AffineApply, AffineMin, AffineMax, AffineLoad, AffineStore, VectorReduction, VectorExtract, VectorInsert, VectorShuffle}
 use Rattle.av_tree.specs.declared.attribute.Attr.{Attr}
 use Rattle.av_tree.specs.declared.attribute.Attr.TheVariants as attr
 use Rattle.av_tree.specs.declared.attribute.Named.{Named}
 use Rattle.av_tree.specs.declared.written.TypeText.{TypeText}
 use Rattle.av_tree.specs.declared.written.TypeText.TheVariants as text
 use Rattle.av_totree.specs.Texts.{entry}
-use Rattle.av_totree.specs.Maps.{map_of}
+use Rattle.av_totree.specs.Maps.{map_of, set_of}
+use Rattle.av_totree.specs.Kinds.{combining_name}
 use Rattle.av_totree.specs.Constants.{constant_of}
-
-abbrev pub binary_name : BinOp → List ℕ
-binary_name Addi = codes "arith.addi"
-binary_name Subi = codes "arith.subi"
-binary_name Muli = codes "arith.muli"
-binary_name Divsi = codes "arith.divsi"
-binary_name Divui = codes "arith.divui"
-binary_name Remsi = codes "arith.remsi"
-binary_name Remui = codes "arith.remui"
-binary_name Floordivsi = codes "arith.floordivsi"
-binary_name Ceildivsi = codes "arith.ceildivsi"
-binary_name Ceildivui = codes "arith.ceildivui"
-binary_name Andi = codes "arith.andi"
-binary_name Ori = codes "arith.ori"
-binary_name Xori = codes "arith.xori"
-binary_name Shli = codes "arith.shli"
-binary_name Shrsi = codes "arith.shrsi"
-binary_name Shrui = codes "arith.shrui"
-binary_name Minsi = codes "arith.minsi"
-binary_name Minui = codes "arith.minui"
-binary_name Maxsi = codes "arith.maxsi"
-binary_name Maxui = codes "arith.maxui"
-
-abbrev pub kind_name : OpKind → List ℕ
-kind_name FuncReturn = codes "func.return"
-kind_name (ArithConstant value) = codes "arith.constant"
-kind_name (ArithBinary op) = binary_name op
-kind_name (AffineFor lower upper step) = codes "affine.for"
-kind_name AffineYield = codes "affine.yield"
-kind_name (AffineLoad m) = codes "affine.load"
-kind_name (AffineStore m) = codes "affine.store"
 
 -- a number that isn't negative, of a scalar type
 abbrev pub number_of : List ℕ → ℕ → Attr
@@ -72,20 +43,47 @@ abbrev pub first_type : List Ty → List ValueId → Option Ty
 first_type types [] = None
 first_type types (id ∷ ids) = slice_get types id.0
 
+-- the number of a predicate
+abbrev pub predicate_of : Pred → ℕ
+predicate_of Eq = 0
+predicate_of Ne = 1
+predicate_of Slt = 2
+predicate_of Sle = 3
+predicate_of Sgt = 4
+predicate_of Sge = 5
+predicate_of Ult = 6
+predicate_of Ule = 7
+predicate_of Ugt = 8
+predicate_of Uge = 9
+
+abbrev pub combining_of : Kind9 → Attr
+combining_of kind = attr.Hash (codes "#vector.kind") (combining_name kind ∷ [])
+
+-- positions of elements
+abbrev pub numbers_of : List ℕ → Attr
+numbers_of positions = attr.Array (text.Scalar (codes "i64")) (map pos positions)
+
 -- the properties of an operation, in the order in which its own form has them
 abbrev pub properties_of : List Ty → OpKind → ℕ → List ValueId → List Named
-properties_of types FuncReturn operands results = []
 properties_of types (ArithConstant value) operands results = typed_value value (first_type types results)
-properties_of types (ArithBinary op) operands results = []
+properties_of types (ArithCmpi pred) operands results = entry (codes "predicate") (number_of (codes "i64") (predicate_of pred)) ∷ []
 properties_of types (AffineFor lower upper step) operands results =
     entry (codes "operandSegmentSizes") (segments_of lower upper operands)
     ∷ entry (codes "step") (number_of (codes "index") step)
     ∷ map_entry (codes "lowerBoundMap") lower
     ∷ map_entry (codes "upperBoundMap") upper
     ∷ []
-properties_of types AffineYield operands results = []
+properties_of types (AffineIf set) operands results = entry (codes "condition") (attr.Set (set_of set)) ∷ []
+properties_of types (AffineApply m) operands results = map_entry (codes "map") m ∷ []
+properties_of types (AffineMin m) operands results = map_entry (codes "map") m ∷ []
+properties_of types (AffineMax m) operands results = map_entry (codes "map") m ∷ []
 properties_of types (AffineLoad m) operands results = map_entry (codes "map") m ∷ []
 properties_of types (AffineStore m) operands results = map_entry (codes "map") m ∷ []
+properties_of types (VectorReduction kind) operands results = entry (codes "kind") (combining_of kind) ∷ []
+properties_of types (VectorExtract at) operands results = entry (codes "static_position") (numbers_of at) ∷ []
+properties_of types (VectorInsert at) operands results = entry (codes "static_position") (numbers_of at) ∷ []
+properties_of types (VectorShuffle picks) operands results = entry (codes "mask") (numbers_of picks) ∷ []
+properties_of types kind operands results = []
 
 abbrev pub function_properties_of : List ℕ → List TypeText → List TypeText → List Named
 function_properties_of name inputs results =

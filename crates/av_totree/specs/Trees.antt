@@ -15,7 +15,8 @@ use Rattle.av_tree.specs.declared.written.TypeText.{TypeText}
 use Rattle.av_tree.specs.declared.written.TypeText.TheVariants as text
 use Rattle.av_totree.specs.Types.{type_of}
 use Rattle.av_totree.specs.Names.{Naming, first_naming, name_of, argument_name, with_argument, with_results, result_texts, written_type}
-use Rattle.av_totree.specs.Properties.{kind_name, properties_of, function_properties_of, marks_of}
+use Rattle.av_totree.specs.Kinds.{kind_name}
+use Rattle.av_totree.specs.Properties.{properties_of, function_properties_of, marks_of}
 
 -- what is made of a part of a function, and the names behind it
 pub record Made (A : Type 0) : Type 0 where

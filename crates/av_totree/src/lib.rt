@@ -3,6 +3,7 @@
 
 mod constants;
 mod functions;
+mod kinds;
 mod maps;
 mod names;
 mod operations;

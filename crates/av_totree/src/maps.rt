@@ -1,12 +1,12 @@
-//! Maps, their parameters by name: `d0`, .. and `s0`, ...
+//! Maps and sets, their parameters by name: `d0`, .. and `s0`, ...
 
 ghost use Rattle.std.specs.Prelude.{◌≡◌, IfOk, map};
-ghost use Rattle.av_totree.specs.Maps.{expression_of, leaf_name as name_of_leaf, map_of, names_of};
+ghost use Rattle.av_totree.specs.Maps.{expression_of, leaf_name as name_of_leaf, map_of, names_of, row_of, set_of};
 ghost use Rattle.av_totree.specs.Texts.{numbered as numbered_text};
 
 use crate::texts::numbered;
-use av_affine::{AffMap, Expr, Held, Leaf, No, Seq, Text};
-use av_tree::{ExprText, MapText};
+use av_affine::{AffMap, AffSet, Expr, Held, Leaf, No, Seq, SetRow, Text};
+use av_tree::{ExprText, MapText, RowText, SetText};
 use std::alloc::{AllocError, Global};
 
 /// A map, its parameters by name.
@@ -17,6 +17,36 @@ pub(crate) fn map_text(alloc: Global, map: &AffMap) -> Result<MapText, AllocErro
         dims: parameter_names(alloc, "d", map.dims)?,
         syms: parameter_names(alloc, "s", map.syms)?,
         results: expression_texts(alloc, map.results.as_slice())?,
+    })
+}
+
+/// A set, its parameters by name.
+pub(crate) fn set_text(alloc: Global, set: &AffSet) -> Result<SetText, AllocError>
+    ensures { IfOk result (λ t. t ≡ set_of set.now) }
+{
+    Ok(SetText {
+        dims: parameter_names(alloc, "d", set.dims)?,
+        syms: parameter_names(alloc, "s", set.syms)?,
+        rows: row_texts(alloc, set.rows.as_slice())?,
+    })
+}
+
+fn row_texts(alloc: Global, rows: &[SetRow]) -> Result<Seq<RowText>, AllocError>
+    ensures { IfOk result (λ t. t ≡ map row_of rows.now) }
+{
+    let mut texts = Seq::new(alloc);
+    for row in rows {
+        texts.push(row_text(alloc, row)?)?;
+    }
+    Ok(texts)
+}
+
+fn row_text(alloc: Global, row: &SetRow) -> Result<RowText, AllocError>
+    ensures { IfOk result (λ t. t ≡ row_of row.now) }
+{
+    Ok(RowText {
+        left: expression_text(alloc, &row.left)?,
+        equal: row.equal,
     })
 }
 

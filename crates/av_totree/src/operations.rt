@@ -7,7 +7,8 @@ ghost use Rattle.av_totree.specs.Names.{name_of, naming_of, written_type as type
 ghost use Rattle.av_totree.specs.Trees.{argument_type as type_of_argument, body_of, in_turn, make_argument, node_of, whole_node as whole_node_of};
 
 use crate::names::{Names, written_type};
-use crate::properties::{mark_attributes, operation_name, properties};
+use crate::kinds::operation_name;
+use crate::properties::{mark_attributes, properties};
 use crate::texts::text_of;
 use crate::types::scalar;
 use av_affine::{Seq, Text};

@@ -1,77 +1,129 @@
-//! What operations say besides their operands: names, properties and marks.
+//! What operations say besides their operands: properties and marks.
 
 ghost use Rattle.std.specs.Prelude.{◌≡◌, ◌+◌, ◌^◌, ◌<◌, pos, ◌++◌, ◌∷◌, [], IfOk, OnOk, codes, length};
 ghost use Rattle.std.specs.Option.{option_copied};
 ghost use Rattle.av_ir.specs.declared.module.Op.{out-Op};
 ghost use Rattle.av_totree.specs.Texts.{entry as entry_of};
-ghost use Rattle.av_totree.specs.Properties.{binary_name as name_of_binary, distinct_mark, first_type as type_first, function_properties_of, kind_name, map_entry, marks_of, number_mark, number_of, properties_of, segments_of, typed_value as value_typed};
+ghost use Rattle.av_totree.specs.Properties.{combining_of, distinct_mark, first_type as type_first, function_properties_of, map_entry, marks_of, number_mark, number_of, numbers_of, predicate_of, properties_of, segments_of, typed_value as value_typed};
 
 use crate::constants::constant;
-use crate::maps::map_text;
+use crate::kinds::combining_name;
+use crate::maps::{map_text, set_text};
 use crate::texts::{entry, text_of};
 use crate::types::scalar;
-use av_affine::{AffMap, No, Seq};
-use av_bits::BinOp;
+use av_affine::{AffMap, AffSet, No, Seq};
+use av_bits::{Kind9, Pred};
 use av_ir::{Const, Marks, Op, OpKind, Ty, ValueId};
 use av_tree::{Attr, Named, TypeText};
 use std::alloc::{AllocError, Global};
-
-/// The name of an operation.
-pub(crate) fn operation_name(kind: &OpKind) -> &'static [u8]
-    ensures { result.now ≡ kind_name kind.now }
-{
-    match kind {
-        OpKind::FuncReturn => b"func.return",
-        OpKind::ArithConstant(_) => b"arith.constant",
-        OpKind::ArithBinary(op) => binary_name(*op),
-        OpKind::AffineFor { .. } => b"affine.for",
-        OpKind::AffineYield => b"affine.yield",
-        OpKind::AffineLoad(_) => b"affine.load",
-        OpKind::AffineStore(_) => b"affine.store",
-    }
-}
-
-fn binary_name(op: BinOp) -> &'static [u8]
-    ensures { result.now ≡ name_of_binary op }
-{
-    match op {
-        BinOp::Addi => b"arith.addi",
-        BinOp::Subi => b"arith.subi",
-        BinOp::Muli => b"arith.muli",
-        BinOp::Divsi => b"arith.divsi",
-        BinOp::Divui => b"arith.divui",
-        BinOp::Remsi => b"arith.remsi",
-        BinOp::Remui => b"arith.remui",
-        BinOp::Floordivsi => b"arith.floordivsi",
-        BinOp::Ceildivsi => b"arith.ceildivsi",
-        BinOp::Ceildivui => b"arith.ceildivui",
-        BinOp::Andi => b"arith.andi",
-        BinOp::Ori => b"arith.ori",
-        BinOp::Xori => b"arith.xori",
-        BinOp::Shli => b"arith.shli",
-        BinOp::Shrsi => b"arith.shrsi",
-        BinOp::Shrui => b"arith.shrui",
-        BinOp::Minsi => b"arith.minsi",
-        BinOp::Minui => b"arith.minui",
-        BinOp::Maxsi => b"arith.maxsi",
-        BinOp::Maxui => b"arith.maxui",
-    }
-}
 
 /// The properties of an operation, in the order in which its own form has them.
 pub(crate) fn properties(alloc: Global, types: &[Ty], op: &Op) -> Result<Seq<Named>, AllocError>
     ensures { let x = out-Op op.now in IfOk result (λ p. p ≡ properties_of types.now x.kind (length x.operands) x.results) }
 {
     match &op.kind {
-        OpKind::FuncReturn | OpKind::ArithBinary(_) | OpKind::AffineYield => Ok(Seq::new(alloc)),
         OpKind::ArithConstant(value) => {
             typed_value(alloc, value, first_type(types, op.results.as_slice()))
         }
+        OpKind::ArithCmpi(pred) => one_property(
+            alloc,
+            b"predicate",
+            number(alloc, predicate_number(*pred), b"i64")?,
+        ),
         OpKind::AffineFor { lower, upper, step } => {
             loop_properties(alloc, lower, upper, *step, op.operands.len() as u64)
         }
-        OpKind::AffineLoad(map) | OpKind::AffineStore(map) => access_properties(alloc, map),
+        OpKind::AffineIf(set) => {
+            one_property(alloc, b"condition", Attr::Set(set_text(alloc, set)?))
+        }
+        OpKind::AffineApply(map)
+        | OpKind::AffineMin(map)
+        | OpKind::AffineMax(map)
+        | OpKind::AffineLoad(map)
+        | OpKind::AffineStore(map) => {
+            one_property(alloc, b"map", Attr::Map(map_text(alloc, map)?))
+        }
+        OpKind::VectorReduction(kind) => one_property(alloc, b"kind", combining(alloc, *kind)?),
+        OpKind::VectorExtract(at) | OpKind::VectorInsert(at) => one_property(
+            alloc,
+            b"static_position",
+            numbers(alloc, at.as_slice())?,
+        ),
+        OpKind::VectorShuffle(picks) => {
+            one_property(alloc, b"mask", numbers(alloc, picks.as_slice())?)
+        }
+        OpKind::FuncReturn
+        | OpKind::ArithBinary(_)
+        | OpKind::ArithSelect
+        | OpKind::ArithCast(_)
+        | OpKind::AffineYield
+        | OpKind::MemrefLoad
+        | OpKind::MemrefStore
+        | OpKind::MemrefDim
+        | OpKind::ScfFor
+        | OpKind::ScfYield
+        | OpKind::VectorLoad
+        | OpKind::VectorStore
+        | OpKind::VectorMaskedLoad
+        | OpKind::VectorMaskedStore
+        | OpKind::VectorGather
+        | OpKind::VectorScatter
+        | OpKind::VectorBroadcast
+        | OpKind::VectorCreateMask
+        | OpKind::VectorStep
+        | OpKind::VectorVscale => Ok(Seq::new(alloc)),
     }
+}
+
+// A property alone.
+fn one_property(alloc: Global, name: &[u8], value: Attr) -> Result<Seq<Named>, AllocError>
+    ensures { IfOk result (λ p. p ≡ entry_of name.now value ∷ []) }
+{
+    let mut properties = Seq::new(alloc);
+    properties.push(entry(alloc, name, value)?)?;
+    Ok(properties)
+}
+
+fn predicate_number(pred: Pred) -> u64
+    ensures { result ≡ predicate_of pred }
+{
+    match pred {
+        Pred::Eq => 0,
+        Pred::Ne => 1,
+        Pred::Slt => 2,
+        Pred::Sle => 3,
+        Pred::Sgt => 4,
+        Pred::Sge => 5,
+        Pred::Ult => 6,
+        Pred::Ule => 7,
+        Pred::Ugt => 8,
+        Pred::Uge => 9,
+    }
+}
+
+fn combining(alloc: Global, kind: Kind9) -> Result<Attr, AllocError>
+    ensures { IfOk result (λ a. a ≡ combining_of kind) }
+{
+    let mut words = Seq::new(alloc);
+    words.push(text_of(alloc, combining_name(kind))?)?;
+    Ok(Attr::Hash {
+        name: text_of(alloc, b"#vector.kind")?,
+        words,
+    })
+}
+
+// Positions of elements.
+fn numbers(alloc: Global, positions: &[u16]) -> Result<Attr, AllocError>
+    ensures { IfOk result (λ a. a ≡ numbers_of positions.now) }
+{
+    let mut numbers = Seq::new(alloc);
+    for position in positions {
+        numbers.push(i128::from(*position))?;
+    }
+    Ok(Attr::Array {
+        elem: scalar(alloc, b"i64")?,
+        numbers,
+    })
 }
 
 fn first_type<'a>(types: &'a [Ty], results: &[ValueId]) -> Option<&'a Ty>
@@ -91,14 +143,6 @@ fn typed_value(alloc: Global, value: &Const, ty: Option<&Ty>) -> Result<Seq<Name
         let value = constant(alloc, value, ty)?;
         properties.push(entry(alloc, b"value", value)?)?;
     }
-    Ok(properties)
-}
-
-fn access_properties(alloc: Global, map: &AffMap) -> Result<Seq<Named>, AllocError>
-    ensures { IfOk result (λ p. p ≡ map_entry (codes "map") map.now ∷ []) }
-{
-    let mut properties = Seq::new(alloc);
-    push_map(alloc, &mut properties, b"map", map)?;
     Ok(properties)
 }
 

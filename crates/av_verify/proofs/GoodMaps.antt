@@ -14,27 +14,12 @@ use Rattle.av_affine.proofs.Found.{found-sound}
 use Rattle.av_affine.proofs.Variants.{bound_found-Param, bound_found-Const, bound_found-Add, bound_found-Sub, node_count-Param, node_count-Const, node_count-Add, node_count-Sub}
 use Rattle.av_ir.specs.declared.module.ValueId.{ValueId}
 use Rattle.av_affine.specs.declared.expression.AffMap.{AffMap}
-use Rattle.av_ir.specs.declared.module.OpKind.{OpKind}
-use Rattle.av_ir.specs.declared.module.OpKind.TheVariants.{FuncReturn, ArithConstant, ArithBinary, AffineFor, AffineYield, AffineLoad, AffineStore}
+use Rattle.av_ir.specs.WellFormed.{IsUsable}
 use Rattle.av_tree.specs.declared.written.ExprText.{ExprText, Name, Const, Neg', Add', Sub', Mul', Mod', Floor', Ceil', end_of-ExprText, more_of-ExprText}
 use Rattle.av_tree.specs.declared.written.MapText.{MapText}
 use Rattle.av_verify.specs.Accesses.{has_few_results, normal_of}
 use Rattle.av_verify.specs.Expressions.{node_count as nodes_of, bound_found as bound_in, is_parameter, is_admissible, are_own, is_affine}
 use Rattle.av_verify.specs.Maps.{renamed, normal_map, occurring, parameter_value, place_among}
-
--- at most 8 results, each affine and within the limits of an expression
-abbrev pub IsGoodMap : AffMap → Type 0
-IsGoodMap m = All Admissible m.results × (length m.results ≤ 8)
-
--- the maps of an operation are within their limits
-abbrev pub HasGoodMaps : OpKind → Type 0
-HasGoodMaps FuncReturn = Unit {0}
-HasGoodMaps (ArithConstant value) = Unit {0}
-HasGoodMaps (ArithBinary op) = Unit {0}
-HasGoodMaps (AffineFor lower upper step) = IsGoodMap lower × IsGoodMap upper
-HasGoodMaps AffineYield = Unit {0}
-HasGoodMaps (AffineLoad m) = IsGoodMap m
-HasGoodMaps (AffineStore m) = IsGoodMap m
 
 pub both : (a b : Bool) → a && b ≡ true → (a ≡ true) × (b ≡ true)
 both true b h = (refl, h)
@@ -101,7 +86,7 @@ module _ (m : MapText) (operands used : List ValueId) where
 few_results : (n : ℕ) → nat_le n 8 ≡ true → n ≤ 8
 few_results n h = grind (arith, nat_tests)
 
-map_usable : (m : MapText) (operands : List ValueId) → is_affine (Some m) ≡ true → has_few_results (Some m) ≡ true → IsGoodMap (normal_map m operands)
+map_usable : (m : MapText) (operands : List ValueId) → is_affine (Some m) ≡ true → has_few_results (Some m) ≡ true → IsUsable (normal_map m operands)
 map_usable m operands affine few = (
   All-map Admissible (renamed m operands (occurring m operands)) m.results
       (All-weaker (λ e. is_admissible m e ≡ true) (λ e. Admissible (renamed m operands (occurring m operands) e))
@@ -111,6 +96,6 @@ map_usable m operands affine few = (
   simp length-map (few_results (length m.results) few),
 )
 
-pub usable : (found : Option MapText) (operands : List ValueId) → is_affine found ≡ true → has_few_results found ≡ true → IsGoodMap (normal_of found operands).map
+pub usable : (found : Option MapText) (operands : List ValueId) → is_affine found ≡ true → has_few_results found ≡ true → IsUsable (normal_of found operands).map
 usable (Some m) operands affine few = map_usable m operands affine few
 usable None operands affine few = absurd (cc)

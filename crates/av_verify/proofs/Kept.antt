@@ -1,5 +1,5 @@
 -- What the walk over operations keeps: each value has the type of an element or of a buffer, each operation defines values of the
--- function, and its maps are within their limits. So what holds of such parts holds of a module that is given.
+-- function, is of Scalar mode, and its maps are within their limits. So what holds of such parts holds of a module that is given.
 use Rattle.std.proofs.Common.{◌≡◌, ℕ, zero, suc, ◌+◌, ◌≤◌, ◌<◌, lit<, arith, Bool, true, false, List, [], ◌∷◌, ◌++◌, length, length-append, Option, Some, None}
 use Rattle.std.specs.Prelude.{unwrap_or, ◌==◌, ◌&&◌, codes, drop}
 use Rattle.std.specs.List.{All}
@@ -48,7 +48,8 @@ use Rattle.av_verify.specs.Scopes.{defined, first_scope, next_value}
 use Rattle.av_verify.specs.Types.{elem_of, extents_of, memref_of, type_of}
 use Rattle.av_verify.proofs.Given.{OnGiven, given, on_next, on_checked}
 use Rattle.av_verify.proofs.Rules.{all_hold}
-use Rattle.av_verify.proofs.GoodMaps.{HasGoodMaps, both, usable}
+use Rattle.av_ir.specs.WellFormed.{HasUsableMaps, IsScalarKind}
+use Rattle.av_verify.proofs.GoodMaps.{both, usable}
 
 abbrev index : Ty
 index = ty.Scalar Index
@@ -59,7 +60,7 @@ AreBelow count ids = All (λ id. id.0 < count) ids
 module _ (IsGood : Ty → Type 0) (scalars : (elem : Elem) → IsGood (ty.Scalar elem)) (memrefs : (extents : List Extent) (elem : Elem) → IsGood (ty.MemRef extents elem))
     (CanRun : ℕ → Op → Type 0) (CanRunRegion : ℕ → Region → Type 0)
     (op_runs : (count number : ℕ) (kind : OpKind) (operands results : List ValueId) (regions : List Region) (marks : Marks)
-    → HasGoodMaps kind → All (λ id. id.0 < count) results → All (CanRunRegion count) regions → CanRun count (op_of number kind operands results regions marks))
+    → HasUsableMaps kind → IsScalarKind kind → All (λ id. id.0 < count) results → All (CanRunRegion count) regions → CanRun count (op_of number kind operands results regions marks))
     (region_runs : (count : ℕ) (args : List ValueId) (ops : List Op) → All (λ id. id.0 < count) args → All (CanRun count) ops → CanRunRegion count (region_of args ops)) where
   -- ---- types
   memref_kept : (elem : Option Elem) (extents : Option (List Extent)) → IsGood (unwrap_or (memref_of elem extents) index)
@@ -206,7 +207,7 @@ module _ (IsGood : Ty → Type 0) (scalars : (elem : Elem) → IsGood (ty.Scalar
       let upper = normal_entry node (codes "upperBoundMap") (upper_values node operands) in
       op_runs count number (AffineFor lower.map upper.map (step_of (number_of (entry_of (codes "step") node)))) (lower.operands ++ upper.operands) [] (region ∷ []) (marks_of row.Loop node)
       (usable (lower_map node) (lower_values node operands) affines.0 fews.0, usable (upper_map node) (upper_values node operands) affines.1 fews.1)
-      (none_named count) (All-cons (CanRunRegion count) region [] inside (no_regions count))
+      tt (none_named count) (All-cons (CanRunRegion count) region [] inside (no_regions count))
 
   loop_holds : (has_room : Bool) (inside : Scope → List Body → Outcome (Step Region)) → ((scope : Scope) (bodies : List Body) → OnGiven (Holds CanRunRegion scope) (inside scope bodies))
       → (number : ℕ) (scope : Scope) (node : Node) → OnGiven (Holds CanRun scope) (loop_with has_room inside number scope node)
@@ -234,7 +235,7 @@ module _ (IsGood : Ty → Type 0) (scalars : (elem : Elem) → IsGood (ty.Scalar
         on_checked (Holds CanRun scope) number (first_failing (constant_rules scope node))
         (step (constant_op scope node number) (defined scope (result_name node) (ty.Scalar (constant_elem node)) Plain))
         (λ passed. define CanRun scope (result_name node) (ty.Scalar (constant_elem node)) Plain (constant_op scope node number) (scalars (constant_elem node))
-        (λ count l. op_runs count number (ArithConstant (Splat (constant_pattern node))) [] (next_value scope ∷ []) [] no_marks tt (one_named count scope l) (no_regions count)))
+        (λ count l. op_runs count number (ArithConstant (Splat (constant_pattern node))) [] (next_value scope ∷ []) [] no_marks tt tt (one_named count scope l) (no_regions count)))
 
     binary_holds : (op : BinOp) → OnGiven (Holds CanRun scope) (checked number (first_failing (binary_rules op scope node))
         (step (binary_op op scope node number) (defined scope (result_name node) (ty.Scalar (left_elem scope node)) Plain)))
@@ -242,7 +243,7 @@ module _ (IsGood : Ty → Type 0) (scalars : (elem : Elem) → IsGood (ty.Scalar
         on_checked (Holds CanRun scope) number (first_failing (binary_rules op scope node))
         (step (binary_op op scope node number) (defined scope (result_name node) (ty.Scalar (left_elem scope node)) Plain))
         (λ passed. define CanRun scope (result_name node) (ty.Scalar (left_elem scope node)) Plain (binary_op op scope node number) (scalars (left_elem scope node))
-        (λ count l. op_runs count number (ArithBinary op) (operands_of scope node) (next_value scope ∷ []) [] no_marks tt (one_named count scope l) (no_regions count)))
+        (λ count l. op_runs count number (ArithBinary op) (operands_of scope node) (next_value scope ∷ []) [] no_marks tt tt (one_named count scope l) (no_regions count)))
 
     load_maps : first_failing (load_rules scope node) ≡ None → (is_affine (access_map node) ≡ true) × (has_few_results (access_map node) ≡ true)
     load_maps passed =
@@ -257,7 +258,7 @@ module _ (IsGood : Ty → Type 0) (scalars : (elem : Elem) → IsGood (ty.Scalar
         (λ passed. let maps = load_maps passed in
         define CanRun scope (result_name node) (ty.Scalar (loaded_elem scope node)) Plain (load_op scope node number) (scalars (loaded_elem scope node))
         (λ count l. op_runs count number (AffineLoad (used_map node (operands_of scope node) 1).map) (used_map node (operands_of scope node) 1).operands (next_value scope ∷ []) [] (marks_of row.Load node)
-        (usable (access_map node) (drop 1 (operands_of scope node)) maps.0 maps.1) (one_named count scope l) (no_regions count)))
+        (usable (access_map node) (drop 1 (operands_of scope node)) maps.0 maps.1) tt (one_named count scope l) (no_regions count)))
 
     store_maps : first_failing (store_rules scope node) ≡ None → (is_affine (access_map node) ≡ true) × (has_few_results (access_map node) ≡ true)
     store_maps passed =
@@ -270,19 +271,19 @@ module _ (IsGood : Ty → Type 0) (scalars : (elem : Elem) → IsGood (ty.Scalar
         (λ passed. let maps = store_maps passed in
         stay CanRun scope (store_op scope node number)
         (λ count. op_runs count number (AffineStore (used_map node (operands_of scope node) 2).map) (used_map node (operands_of scope node) 2).operands [] [] (marks_of row.Store node)
-        (usable (access_map node) (drop 2 (operands_of scope node)) maps.0 maps.1) (none_named count) (no_regions count)))
+        (usable (access_map node) (drop 2 (operands_of scope node)) maps.0 maps.1) tt (none_named count) (no_regions count)))
 
     return_holds : (is_last : Bool) → OnGiven (Holds CanRun scope) (checked number (first_failing (end_rules row.Return is_last scope node)) (step (end_op row.Return scope node number) scope))
     return_holds is_last =
         on_checked (Holds CanRun scope) number (first_failing (end_rules row.Return is_last scope node)) (step (end_op row.Return scope node number) scope)
         (λ passed. stay CanRun scope (end_op row.Return scope node number)
-        (λ count. op_runs count number FuncReturn (operands_of scope node) [] [] no_marks tt (none_named count) (no_regions count)))
+        (λ count. op_runs count number FuncReturn (operands_of scope node) [] [] no_marks tt tt (none_named count) (no_regions count)))
 
     yield_holds : (is_last : Bool) → OnGiven (Holds CanRun scope) (checked number (first_failing (end_rules row.Yield is_last scope node)) (step (end_op row.Yield scope node number) scope))
     yield_holds is_last =
         on_checked (Holds CanRun scope) number (first_failing (end_rules row.Yield is_last scope node)) (step (end_op row.Yield scope node number) scope)
         (λ passed. stay CanRun scope (end_op row.Yield scope node number)
-        (λ count. op_runs count number AffineYield (operands_of scope node) [] [] no_marks tt (none_named count) (no_regions count)))
+        (λ count. op_runs count number AffineYield (operands_of scope node) [] [] no_marks tt tt (none_named count) (no_regions count)))
 
   -- ---- any operation
   module _ (loop : ℕ → Scope → Node → Outcome (Step Op)) (loops : (number : ℕ) (scope : Scope) (node : Node) → OnGiven (Holds CanRun scope) (loop number scope node)) where

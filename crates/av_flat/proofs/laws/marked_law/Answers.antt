@@ -1,7 +1,8 @@
 use Rattle.std.proofs.Common.{◌∙◌}
+use Rattle.av_ir.specs.FlatRun.{perform_flat}
 use Rattle.av_ir.proofs.MarkedLevels.{funcs_alike}
-use Rattle.av_flat.proofs.Agreement.{marked_flat_is_scalar}
+use Rattle.av_flat.proofs.Agreement.{all_alike}
 use Rattle.av_flat.proofs.laws.marked_law.Goals as goal
 
 pub returns : goal.returns
-returns c = λ scale m args none. marked_flat_is_scalar scale args m.funcs 0 none ∙ funcs_alike args m.funcs 0
+returns c = λ scale m args h. funcs_alike (perform_flat scale) args m.funcs 0 ∙ all_alike scale args m.funcs h

@@ -8,4 +8,4 @@ pub returns-clause-region : goal.returns-clause-region
 returns-clause-region c = same_region
 
 pub returns-clause-module : goal.returns-clause-module
-returns-clause-module c = λ m args. funcs_alike args m.funcs 0
+returns-clause-module c = λ work m args. funcs_alike work args m.funcs 0

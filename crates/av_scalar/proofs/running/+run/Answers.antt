@@ -1,5 +1,5 @@
 use Rattle.std.proofs.Common.{◌≡◌, ℕ, ◌+◌, ◌-◌, ◌%◌, ◌^◌, ◌<◌, suc, length, drop, take, List, [], ◌∷◌, ap, sym, ◌∙◌, refl, subst, arith, rules}
-use Rattle.std.specs.Prelude.{ℤ, pos, ◌+ℤ◌, MatchResult}
+use Rattle.std.specs.Prelude.{ℤ, pos, ◌+ℤ◌, if◌then◌else◌}
 use Rattle.std.proofs.lemmas.Result.{err_from_is_err_and}
 use Rattle.av_bits.specs.Pattern.{pattern_of}
 use Rattle.av_ir.specs.declared.run.RunStop.TheVariants.{OutOfSteps}
@@ -8,19 +8,19 @@ use Rattle.av_ir.specs.declared.module.Op.{the_lemmas as op_lemmas}
 use Rattle.av_ir.specs.declared.module.Region.{out-Region}
 use Rattle.av_ir.specs.declared.module.Region.{the_lemmas as region_lemmas}
 use Rattle.av_ir.specs.declared.module.OpKind.{OpKind}
-use Rattle.av_ir.specs.declared.module.OpKind.TheVariants.{AffineFor}
+use Rattle.av_ir.specs.declared.module.OpKind.TheVariants.{AffineFor, AffineIf}
 use Rattle.av_ir.specs.Run.{Run, Given, Value, Env, word, bind_values, handed_on, run_acts, types_at, values_at}
-use Rattle.av_ir.specs.ScalarRun.{first_body, greatest, index_value, loop_from, operands_of, perform}
+use Rattle.av_ir.specs.ScalarRun.{first_body, greatest, index_value, loop_from, operands_of, perform, second_body}
 use Rattle.av_scalar.specs.Machines.{acts_of, bodies_of, ending_of, given_with, handed_of, memory_in, state_of, work_of}
 use Rattle.av_scalar.specs.Meeting.{EndsAt, Leads, Stops}
 use Rattle.av_scalar.specs.Names.{Since, env_of, unwound, values}
-use Rattle.av_scalar.specs.Runnable.{HasUsableMaps, IsRunnable, IsRunnableRegion}
-use Rattle.av_scalar.specs.Stores.{memory_of}
+use Rattle.av_ir.specs.WellFormed.{HasUsableMaps, IsWellFormedOp, IsWellFormedRegion}
+use Rattle.av_scalar.specs.Stores.{sizes_of}
 use Rattle.av_scalar.proofs.Bindings.{as_many_words, restored, since_then}
 use Rattle.av_scalar.proofs.Meetings.{leads_on}
-use Rattle.av_scalar.proofs.Opened.{usable_maps, results_named, regions_run, args_named, ops_run}
+use Rattle.av_scalar.proofs.Opened.{usable_maps, results_named, regions_formed, args_named, ops_formed}
 use Rattle.av_scalar.proofs.Walks.{op_short, op_stops, op_ends, region_stops, region_ends, ops_end, ops_stop, ops_go_on, turns_end, turn_short, turn_stops, turn_goes_on, pattern_grows}
-use Rattle.av_scalar.proofs.Works.{all_as, for_stops, load_work, named_in, one_as, same_binding, small_kept, store_work, turn_args, turns_stop, turns_over}
+use Rattle.av_scalar.proofs.Works.{all_as, branch_over, branch_stops, for_stops, named_in, no_regions, on_ok, one_as, same_binding, small_kept, turn_args, turns_stop, turns_over}
 use Rattle.av_scalar.proofs.running.+run.Goals as goal
 
 -- ---- an operation
@@ -42,7 +42,7 @@ run_op-returns-in_err-outcome-clause-meets t c = λ handed.
 pub run_op-bind-requires : goal.run_op-bind-requires
 run_op-bind-requires t c =
     named_in (length c.args.machine.now.names.words) (length c.work.new.machine.names.words) (out-Op c.args.op.now).results c.as_slice-2.result.now
-    c.as_slice-2.ensures (ap (λ n. length n.words) c.in_ok-outcome.ensures.names) (results_named (length c.args.machine.now.names.words) c.args.op.now c.requires.runnable)
+    c.as_slice-2.ensures (ap (λ n. length n.words) c.in_ok-outcome.ensures.names) (results_named (length c.args.machine.now.names.words) c.args.op.now c.requires.formed)
 
 pub run_op-returns-clause-meets : goal.run_op-returns-clause-meets
 run_op-returns-clause-meets t c = λ handed.
@@ -60,8 +60,8 @@ pub run_ops-run_op-requires : goal.run_ops-run_op-requires
 run_ops-run_op-requires t c = (
   search (rules, op_lemmas),
   (
-    one_as IsRunnable (length c.args.machine.now.names.words) (length c.loop-op.machine.names.words) c.args.ops.now c.loop-op.op-index c.op-item.result
-        c.loop-op-test.true c.op-item.is (as_many_words c.args.machine.now.names c.loop-op.machine.names c.loop-op.invariant.since) c.requires.runnable,
+    one_as IsWellFormedOp (length c.args.machine.now.names.words) (length c.loop-op.machine.names.words) c.args.ops.now c.loop-op.op-index c.op-item.result
+        c.loop-op-test.true c.op-item.is (as_many_words c.args.machine.now.names c.loop-op.machine.names c.loop-op.invariant.since) c.requires.formed,
     small_kept c.args.machine.now.memory.items c.loop-op.machine.memory.items c.loop-op.invariant.sizes c.requires.small,
   ),
 )
@@ -95,15 +95,15 @@ run_ops-loop-op-preserved t c =
 pub run_region-bind-requires : goal.run_region-bind-requires
 run_region-bind-requires t c =
     named_in (length c.args.machine.now.names.words) (length c.args.machine.now.names.words) (out-Region c.args.region.now).args c.as_slice.result.now
-    c.as_slice.ensures refl (args_named (length c.args.machine.now.names.words) c.args.region.now c.requires.runnable)
+    c.as_slice.ensures refl (args_named (length c.args.machine.now.names.words) c.args.region.now c.requires.formed)
 
 pub run_region-run_ops-requires : goal.run_region-run_ops-requires
 run_region-run_ops-requires t c = (
   search (rules, region_lemmas),
   (
-    all_as IsRunnable (length c.args.machine.now.names.words) (length c.bind.new.self.words) (out-Region c.args.region.now).ops c.as_slice-2.result.now
+    all_as IsWellFormedOp (length c.args.machine.now.names.words) (length c.bind.new.self.words) (out-Region c.args.region.now).ops c.as_slice-2.result.now
         c.as_slice-2.ensures (as_many_words c.args.machine.now.names c.bind.new.self c.in_ok-bind.ensures.since)
-        (ops_run (length c.args.machine.now.names.words) c.args.region.now c.requires.runnable),
+        (ops_formed (length c.args.machine.now.names.words) c.args.region.now c.requires.formed),
     c.requires.small,
   ),
 )
@@ -147,8 +147,8 @@ pub run_turns-run_body-requires : goal.run_turns-run_body-requires
 run_turns-run_body-requires t c = (
   search (rules, region_lemmas),
   (
-    all_as IsRunnableRegion (length c.args.machine.now.names.words) (length c.loop-turn.machine.names.words) c.args.regions.now c.args.regions.now refl
-        (ap (λ n. length n.words) c.loop-turn.invariant.names) c.requires.runnable,
+    all_as IsWellFormedRegion (length c.args.machine.now.names.words) (length c.loop-turn.machine.names.words) c.args.regions.now c.args.regions.now refl
+        (ap (λ n. length n.words) c.loop-turn.invariant.names) c.requires.formed,
     small_kept c.args.machine.now.memory.items c.loop-turn.machine.memory.items c.loop-turn.invariant.sizes c.requires.small,
   ),
 )
@@ -207,26 +207,26 @@ run_turns-returns-clause-meets t c = λ first is.
 -- ---- the work of each kind
 pub work-turns_of-requires-clause-lower : goal.work-turns_of-requires-clause-lower
 work-turns_of-requires-clause-lower t c =
-    (subst HasUsableMaps c.in-AffineFor.is (usable_maps (length c.args.machine.now.names.words) c.args.op.now c.requires.runnable)).0
+    (subst HasUsableMaps c.in-AffineFor.is (usable_maps (length c.args.machine.now.names.words) c.args.op.now c.requires.formed)).0
 
 pub work-turns_of-requires-clause-upper : goal.work-turns_of-requires-clause-upper
 work-turns_of-requires-clause-upper t c =
-    (subst HasUsableMaps c.in-AffineFor.is (usable_maps (length c.args.machine.now.names.words) c.args.op.now c.requires.runnable)).1
+    (subst HasUsableMaps c.in-AffineFor.is (usable_maps (length c.args.machine.now.names.words) c.args.op.now c.requires.formed)).1
 
 pub work-returns-in_err-turns-in-AffineFor-clause-meets : goal.work-returns-in_err-turns-in-AffineFor-clause-meets
 work-returns-in_err-turns-in-AffineFor-clause-meets t c =
     let p = err_from_is_err_and c.from_residual.result c.from_residual.ensures.1 in
     rw (p.1, p.2)
-    (for_stops (types_at c.args.types.now (out-Op c.args.op.now).results) (out-Op c.args.op.now).kind c.in-AffineFor.lower c.in-AffineFor.upper c.in-AffineFor.step c.in-AffineFor.is (out-Op c.args.op.now).number
-    c.args.operands c.as_slice-in-AffineFor.result.now c.as_slice-in-AffineFor.ensures (bodies_of perform c.args.types.now (out-Op c.args.op.now).regions (env_of c.args.machine.now.names)) (memory_in c.args.standing.now c.args.machine.now)
+    (for_stops (types_at c.args.types.now (out-Op c.args.op.now).operands) (types_at c.args.types.now (out-Op c.args.op.now).results) (out-Op c.args.op.now).kind c.in-AffineFor.lower c.in-AffineFor.upper c.in-AffineFor.step c.in-AffineFor.is (out-Op c.args.op.now).number
+    c.args.operands c.as_slice.result.now c.as_slice.ensures (bodies_of perform c.args.types.now (out-Op c.args.op.now).regions (env_of c.args.machine.now.names)) (memory_in c.args.standing.now c.args.machine.now)
     c.args.machine.now.left c.in_err-turns-in-AffineFor.field-0.0 c.in_err-turns-in-AffineFor.ensures.stop)
 
 pub work-run_turns-requires : goal.work-run_turns-requires
 work-run_turns-requires t c = (
   search (rules, op_lemmas),
   (
-    all_as IsRunnableRegion (length c.args.machine.now.names.words) (length c.args.machine.now.names.words) (out-Op c.args.op.now).regions c.as_slice-regions.result.now c.as_slice-regions.ensures refl
-        (regions_run (length c.args.machine.now.names.words) c.args.op.now c.requires.runnable),
+    all_as IsWellFormedRegion (length c.args.machine.now.names.words) (length c.args.machine.now.names.words) (out-Op c.args.op.now).regions c.as_slice-regions.result.now c.as_slice-regions.ensures refl
+        (regions_formed (length c.args.machine.now.names.words) c.args.op.now c.requires.formed),
     c.requires.small,
   ),
 )
@@ -236,10 +236,10 @@ work-returns-in_err-words-in-AffineFor-clause-meets t c =
     let its = c.in_ok-turns-in-AffineFor.ensures.turns in
     let p = err_from_is_err_and c.from_residual-in_err-words-in-AffineFor.result c.from_residual-in_err-words-in-AffineFor.ensures.1 in
     rw (p.1, p.2)
-    (turns_stop (types_at c.args.types.now (out-Op c.args.op.now).results) (out-Op c.args.op.now).kind c.in-AffineFor.lower c.in-AffineFor.upper c.in-AffineFor.step c.in-AffineFor.is (out-Op c.args.op.now).number
-    c.args.operands c.as_slice-in-AffineFor.result.now c.as_slice-in-AffineFor.ensures (bodies_of perform c.args.types.now (out-Op c.args.op.now).regions (env_of c.args.machine.now.names)) (memory_in c.args.standing.now c.args.machine.now)
+    (turns_stop (types_at c.args.types.now (out-Op c.args.op.now).operands) (types_at c.args.types.now (out-Op c.args.op.now).results) (out-Op c.args.op.now).kind c.in-AffineFor.lower c.in-AffineFor.upper c.in-AffineFor.step c.in-AffineFor.is (out-Op c.args.op.now).number
+    c.args.operands c.as_slice.result.now c.as_slice.ensures (bodies_of perform c.args.types.now (out-Op c.args.op.now).regions (env_of c.args.machine.now.names)) (memory_in c.args.standing.now c.args.machine.now)
     c.args.machine.now.left c.in_ok-turns-in-AffineFor.turns its c.in_ok-carried-in-AffineFor.carried
-    (c.in_ok-carried-in-AffineFor.ensures ∙ ap (λ ws. drop (operands_of c.in-AffineFor.upper) (drop (operands_of c.in-AffineFor.lower) (values ws))) c.as_slice-in-AffineFor-2.ensures)
+    (c.in_ok-carried-in-AffineFor.ensures ∙ ap (λ ws. drop (operands_of c.in-AffineFor.upper) (drop (operands_of c.in-AffineFor.lower) (values ws))) c.as_slice-in-AffineFor.ensures)
     c.in_err-words-in-AffineFor.field-0.0
     (subst (λ regions. Stops (loop_from (first_body (bodies_of perform c.args.types.now regions (env_of c.args.machine.now.names))) c.in_ok-turns-in-AffineFor.turns.step c.in_ok-turns-in-AffineFor.turns.count (greatest its.low) (values c.in_ok-carried-in-AffineFor.carried) (memory_in c.args.standing.now c.args.machine.now)) c.args.machine.now.left
     c.in_err-words-in-AffineFor.field-0.0) c.as_slice-regions.ensures
@@ -248,34 +248,59 @@ work-returns-in_err-words-in-AffineFor-clause-meets t c =
 pub work-returns-in_ok-words-in-AffineFor-clause-meets : goal.work-returns-in_ok-words-in-AffineFor-clause-meets
 work-returns-in_ok-words-in-AffineFor-clause-meets t c =
     let its = c.in_ok-turns-in-AffineFor.ensures.turns in
-    turns_over (types_at c.args.types.now (out-Op c.args.op.now).results) (out-Op c.args.op.now).kind c.in-AffineFor.lower c.in-AffineFor.upper c.in-AffineFor.step c.in-AffineFor.is (out-Op c.args.op.now).number
-    c.args.operands c.as_slice-in-AffineFor.result.now c.as_slice-in-AffineFor.ensures (bodies_of perform c.args.types.now (out-Op c.args.op.now).regions (env_of c.args.machine.now.names)) (memory_in c.args.standing.now c.args.machine.now)
+    turns_over (types_at c.args.types.now (out-Op c.args.op.now).operands) (types_at c.args.types.now (out-Op c.args.op.now).results) (out-Op c.args.op.now).kind c.in-AffineFor.lower c.in-AffineFor.upper c.in-AffineFor.step c.in-AffineFor.is (out-Op c.args.op.now).number
+    c.args.operands c.as_slice.result.now c.as_slice.ensures (bodies_of perform c.args.types.now (out-Op c.args.op.now).regions (env_of c.args.machine.now.names)) (memory_in c.args.standing.now c.args.machine.now)
     c.args.machine.now.left c.in_ok-turns-in-AffineFor.turns its c.in_ok-carried-in-AffineFor.carried
-    (c.in_ok-carried-in-AffineFor.ensures ∙ ap (λ ws. drop (operands_of c.in-AffineFor.upper) (drop (operands_of c.in-AffineFor.lower) (values ws))) c.as_slice-in-AffineFor-2.ensures)
+    (c.in_ok-carried-in-AffineFor.ensures ∙ ap (λ ws. drop (operands_of c.in-AffineFor.upper) (drop (operands_of c.in-AffineFor.lower) (values ws))) c.as_slice-in-AffineFor.ensures)
     (ending_of c.args.standing.now c.run_turns.new.machine c.in_ok-words-in-AffineFor.words) c.run_turns.new.machine.left
     (subst (λ regions. EndsAt (loop_from (first_body (bodies_of perform c.args.types.now regions (env_of c.args.machine.now.names))) c.in_ok-turns-in-AffineFor.turns.step c.in_ok-turns-in-AffineFor.turns.count (greatest its.low) (values c.in_ok-carried-in-AffineFor.carried) (memory_in c.args.standing.now c.args.machine.now)) c.args.machine.now.left
     (ending_of c.args.standing.now c.run_turns.new.machine c.in_ok-words-in-AffineFor.words) c.run_turns.new.machine.left) c.as_slice-regions.ensures
     (c.in_ok-words-in-AffineFor.ensures.meets (greatest its.low) its.first))
 
-pub work-load-requires-clause-map : goal.work-load-requires-clause-map
-work-load-requires-clause-map t c = subst HasUsableMaps c.in-AffineLoad.is (usable_maps (length c.args.machine.now.names.words) c.args.op.now c.requires.runnable)
+-- ---- a branch
+pub work-test-requires : goal.work-test-requires
+work-test-requires t c = subst HasUsableMaps c.in-AffineIf.is (usable_maps (length c.args.machine.now.names.words) c.args.op.now c.requires.formed)
 
-pub work-store-requires-clause-map : goal.work-store-requires-clause-map
-work-store-requires-clause-map t c = subst HasUsableMaps c.in-AffineStore.is (usable_maps (length c.args.machine.now.names.words) c.args.op.now c.requires.runnable)
+pub work-run_branch-requires : goal.work-run_branch-requires
+work-run_branch-requires t c = (
+  search (rules, op_lemmas),
+  (
+    all_as IsWellFormedRegion (length c.args.machine.now.names.words) (length c.args.machine.now.names.words) (out-Op c.args.op.now).regions c.as_slice-regions-in-AffineIf.result.now c.as_slice-regions-in-AffineIf.ensures refl
+        (regions_formed (length c.args.machine.now.names.words) c.args.op.now c.requires.formed),
+    c.requires.small,
+  ),
+)
 
-pub work-returns-in-ArithConstant-clause-meets : goal.work-returns-in-ArithConstant-clause-meets
-work-returns-in-ArithConstant-clause-meets t c = rw c.in-ArithConstant.is (c.give_constant.ensures (memory_in c.args.standing.now c.args.machine.now) c.args.machine.now.left)
+pub work-returns-in_err-words-in-AffineIf-clause-meets : goal.work-returns-in_err-words-in-AffineIf-clause-meets
+work-returns-in_err-words-in-AffineIf-clause-meets t c =
+    let p = err_from_is_err_and c.from_residual-in_err-words-in-AffineIf.result c.from_residual-in_err-words-in-AffineIf.ensures.1 in
+    rw (p.1, p.2)
+    (branch_stops (types_at c.args.types.now (out-Op c.args.op.now).operands) (types_at c.args.types.now (out-Op c.args.op.now).results) (out-Op c.args.op.now).kind c.in-AffineIf.set c.in-AffineIf.is (out-Op c.args.op.now).number
+    c.args.operands c.as_slice-in-AffineIf.result.now c.as_slice-in-AffineIf.ensures c.in_ok-held-in-AffineIf.held c.in_ok-held-in-AffineIf.ensures (bodies_of perform c.args.types.now (out-Op c.args.op.now).regions (env_of c.args.machine.now.names)) (memory_in c.args.standing.now c.args.machine.now)
+    c.args.machine.now.left c.in_err-words-in-AffineIf.field-0.0
+    (subst (λ regions. Stops ((if c.in_ok-held-in-AffineIf.held then first_body (bodies_of perform c.args.types.now regions (env_of c.args.machine.now.names)) else second_body (bodies_of perform c.args.types.now regions (env_of c.args.machine.now.names))) [] (memory_in c.args.standing.now c.args.machine.now)) c.args.machine.now.left
+    c.in_err-words-in-AffineIf.field-0.0) c.as_slice-regions-in-AffineIf.ensures c.in_err-words-in-AffineIf.ensures.meets))
 
-pub work-returns-in-AffineLoad-clause-meets : goal.work-returns-in-AffineLoad-clause-meets
-work-returns-in-AffineLoad-clause-meets t c =
-    subst (λ run. MatchResult c.load.result (λ o. EndsAt run c.args.machine.now.left (given_with o (memory_of c.args.standing.now c.args.machine.now.memory.items)) c.args.machine.now.left) (Stops run c.args.machine.now.left))
-    (load_work (types_at c.args.types.now (out-Op c.args.op.now).results) (out-Op c.args.op.now).kind c.in-AffineLoad.map (out-Op c.args.op.now).number c.args.operands c.as_slice-in-AffineLoad.result.now
-    (bodies_of perform c.args.types.now (out-Op c.args.op.now).regions (env_of c.args.machine.now.names)) (memory_in c.args.standing.now c.args.machine.now) c.in-AffineLoad.is c.as_slice-in-AffineLoad.ensures)
-    (c.load.ensures c.args.machine.now.left)
+pub work-returns-in_ok-words-in-AffineIf-clause-meets : goal.work-returns-in_ok-words-in-AffineIf-clause-meets
+work-returns-in_ok-words-in-AffineIf-clause-meets t c =
+    branch_over (types_at c.args.types.now (out-Op c.args.op.now).operands) (types_at c.args.types.now (out-Op c.args.op.now).results) (out-Op c.args.op.now).kind c.in-AffineIf.set c.in-AffineIf.is (out-Op c.args.op.now).number
+    c.args.operands c.as_slice-in-AffineIf.result.now c.as_slice-in-AffineIf.ensures c.in_ok-held-in-AffineIf.held c.in_ok-held-in-AffineIf.ensures (bodies_of perform c.args.types.now (out-Op c.args.op.now).regions (env_of c.args.machine.now.names)) (memory_in c.args.standing.now c.args.machine.now)
+    c.args.machine.now.left (ending_of c.args.standing.now c.run_branch.new.machine c.in_ok-words-in-AffineIf.words) c.run_branch.new.machine.left
+    (subst (λ regions. EndsAt ((if c.in_ok-held-in-AffineIf.held then first_body (bodies_of perform c.args.types.now regions (env_of c.args.machine.now.names)) else second_body (bodies_of perform c.args.types.now regions (env_of c.args.machine.now.names))) [] (memory_in c.args.standing.now c.args.machine.now)) c.args.machine.now.left
+    (ending_of c.args.standing.now c.run_branch.new.machine c.in_ok-words-in-AffineIf.words) c.run_branch.new.machine.left) c.as_slice-regions-in-AffineIf.ensures c.in_ok-words-in-AffineIf.ensures.meets)
 
-pub work-returns-in-AffineStore-clause-meets : goal.work-returns-in-AffineStore-clause-meets
-work-returns-in-AffineStore-clause-meets t c =
-    subst (λ run. MatchResult c.store.result (λ o. EndsAt run c.args.machine.now.left (given_with o (memory_of c.args.standing.now c.store.new.memory.items)) c.args.machine.now.left) (Stops run c.args.machine.now.left))
-    (store_work (types_at c.args.types.now (out-Op c.args.op.now).results) (out-Op c.args.op.now).kind c.in-AffineStore.map (out-Op c.args.op.now).number c.args.operands c.as_slice-in-AffineStore.result.now
-    (bodies_of perform c.args.types.now (out-Op c.args.op.now).regions (env_of c.args.machine.now.names)) (memory_in c.args.standing.now c.args.machine.now) c.in-AffineStore.is c.as_slice-in-AffineStore.ensures)
-    (c.store.ensures.stored c.args.machine.now.left)
+-- ---- an operation without regions
+pub work-plain_work-requires : goal.work-plain_work-requires
+work-plain_work-requires t c = record {
+  maps = usable_maps (length c.args.machine.now.names.words) c.args.op.now c.requires.formed;
+  small = c.requires.small;
+}
+
+pub work-returns-in_default : goal.work-returns-in_default
+work-returns-in_default t c = record {
+  meets =
+      c.plain_work.ensures.meets (bodies_of perform c.args.types.now (out-Op c.args.op.now).regions (env_of c.args.machine.now.names)) c.args.machine.now.left
+      (no_regions (out-Op c.args.op.now).kind c.in_default.not-AffineFor c.in_default.not-AffineIf);
+  names = on_ok c.plain_work.result (c.args.machine.now.names ≡ c.args.machine.now.names) refl;
+  sizes = on_ok c.plain_work.result (sizes_of c.plain_work.new.memory.items ≡ sizes_of c.args.machine.now.memory.items) c.plain_work.ensures.sizes;
+}
