@@ -65,7 +65,8 @@ fn evaluated(alloc: Global, map: &AffMap, dims: &[i64], syms: &[i64]) -> Result<
     }
 }
 
-fn are_admissible(results: &[Expr]) -> bool
+/// Whether each of these expressions is affine and within the limits of its size.
+pub fn are_admissible(results: &[Expr]) -> bool
     ensures { IsTrue result ↔ All Admissible results.now }
 {
     results.iter().all(|e| is_admissible(e))
@@ -111,20 +112,23 @@ pub fn holds_case(
     Ok(format!(in alloc; "{holds}")?)
 }
 
-fn are_rows_admissible(rows: &[SetRow]) -> bool
+/// Whether the left side of each row is affine and within the limits of its size.
+pub fn are_rows_admissible(rows: &[SetRow]) -> bool
     ensures { IsTrue result ↔ All (λ row. Admissible row.left) rows.now }
 {
     rows.iter().all(|row| is_admissible(&row.left))
 }
 
-fn map(alloc: Global, written: &[u8]) -> Result<AffMap, Why> {
+/// The map of a text.
+pub fn map(alloc: Global, written: &[u8]) -> Result<AffMap, Why> {
     match attribute(alloc, written)? {
         Attr::Map(map) => map_of(alloc, &map),
         _ => Err(Why::BadValue),
     }
 }
 
-fn set(alloc: Global, written: &[u8]) -> Result<AffSet, Why> {
+/// The set of a text.
+pub fn set(alloc: Global, written: &[u8]) -> Result<AffSet, Why> {
     match attribute(alloc, written)? {
         Attr::Set(set) => set_of(alloc, &set),
         _ => Err(Why::BadValue),

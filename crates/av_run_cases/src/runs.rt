@@ -3,13 +3,15 @@ ghost use Rattle.std.specs.Prelude.{◌<◌, IsTrue, length};
 ghost use Rattle.std.specs.List.{All};
 
 use crate::arguments::{buffers, push_word, shown_bound, shown_end};
+use crate::forms::is_well_formed;
+use crate::scalars::is_scalar;
 use crate::words::magnitudes;
 use av_affine::Seq;
 use av_cases::Why;
 use av_ir::{Args, Bound, Module, RunStop, bind, ended, fits, inner_loops};
 use av_lex::lex;
 use av_reader::read;
-use av_scalar::{is_runnable, run_scalar};
+use av_scalar::run_scalar;
 use av_verify::{Mode, verify};
 use std::alloc::Global;
 
@@ -36,7 +38,7 @@ pub fn run_case(alloc: Global, module: &Module, args: Args, steps: u64) -> Resul
         return Err(Why::BadValue);
     }
     let func = &module.funcs.as_slice()[0];
-    if !fits(func, &args) || !is_runnable(func) {
+    if !fits(func, &args) || !is_well_formed(module) || !is_scalar(module) {
         return Err(Why::BadValue);
     }
     match run_scalar(alloc, module, 0, args, steps) {
@@ -45,6 +47,13 @@ pub fn run_case(alloc: Global, module: &Module, args: Args, steps: u64) -> Resul
         Err(RunStop::OutOfSteps) => Ok(String::from_str(alloc, "out of steps")?),
         Err(RunStop::NoMemory) => Err(Why::NoMemory),
     }
+}
+
+/// Whether a module is well formed, and whether it has scalar operations alone.
+pub fn forms_case(alloc: Global, module: &Module) -> Result<String, Why> {
+    let formed = is_well_formed(module);
+    let scalar = is_scalar(module);
+    Ok(format!(in alloc; "{formed} {scalar}")?)
 }
 
 /// Whether the first function of a module may be given these arguments.
