@@ -75,7 +75,10 @@ impl Standing {
     {
         let buffer = self.buffer(memref);
         if buffer < memory.len() {
-            size_in(memory[buffer].sizes.as_slice(), signed(Width::W64, dimension))
+            size_in(
+                memory[buffer].sizes.as_slice(),
+                signed(Width::W64, dimension),
+            )
         } else {
             None
         }

@@ -6,8 +6,8 @@ ghost use Rattle.av_tree.specs.declared.node.Node.{out-Node, roll-Node};
 ghost use Rattle.av_totree.specs.Names.{name_of, naming_of, written_type as type_written};
 ghost use Rattle.av_totree.specs.Trees.{argument_type as type_of_argument, body_of, in_turn, make_argument, node_of, whole_node as whole_node_of};
 
-use crate::names::{Names, written_type};
 use crate::kinds::operation_name;
+use crate::names::{Names, written_type};
 use crate::properties::{mark_attributes, properties};
 use crate::texts::text_of;
 use crate::types::scalar;
