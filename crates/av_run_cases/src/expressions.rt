@@ -65,8 +65,7 @@ fn evaluated(alloc: Global, map: &AffMap, dims: &[i64], syms: &[i64]) -> Result<
     }
 }
 
-/// Whether each of these expressions is affine and within the limits of its size.
-pub fn are_admissible(results: &[Expr]) -> bool
+fn are_admissible(results: &[Expr]) -> bool
     ensures { IsTrue result ↔ All Admissible results.now }
 {
     results.iter().all(|e| is_admissible(e))
@@ -112,8 +111,7 @@ pub fn holds_case(
     Ok(format!(in alloc; "{holds}")?)
 }
 
-/// Whether the left side of each row is affine and within the limits of its size.
-pub fn are_rows_admissible(rows: &[SetRow]) -> bool
+fn are_rows_admissible(rows: &[SetRow]) -> bool
     ensures { IsTrue result ↔ All (λ row. Admissible row.left) rows.now }
 {
     rows.iter().all(|row| is_admissible(&row.left))

@@ -8,7 +8,7 @@ mod arguments;
 mod bits;
 mod call;
 mod expressions;
-mod forms;
+mod forming;
 mod kinds;
 mod notation;
 mod places;

@@ -3,7 +3,7 @@ ghost use Rattle.std.specs.Prelude.{◌<◌, IsTrue, length};
 ghost use Rattle.std.specs.List.{All};
 
 use crate::arguments::{buffers, push_word, shown_bound, shown_end};
-use crate::forms::is_well_formed;
+use crate::forming::is_well_formed;
 use crate::scalars::is_scalar;
 use crate::words::magnitudes;
 use av_affine::Seq;

@@ -1,33 +1,42 @@
-//! Whether a module is well formed, as each module that is verified is.
+//! The test of modules that aren't read from a text.
 
-ghost use Rattle.std.specs.Prelude.{◌≡◌, ◌≤◌, IsTrue, length};
+ghost use Rattle.std.specs.Prelude.{◌≡◌, ◌↔◌, ◌≤◌, IsTrue, length};
 ghost use Rattle.std.specs.List.{All};
+ghost use Rattle.av_affine.specs.Limits.{Admissible};
 ghost use Rattle.av_ir.specs.WellFormed.{AreValues, HasUsableMaps, IsUsable, IsUsableSet, IsWellFormedFunc, IsWellFormedOp, IsWellFormedRegion, WellFormed};
 
-use crate::expressions::{are_admissible, are_rows_admissible};
-use av_affine::{AffMap, AffSet};
+use av_affine::{AffMap, AffSet, Expr, SetRow, is_admissible};
 use av_ir::{Func, Module, Op, OpKind, Region, ValueId};
 
-// The most results of a map.
 const MAX_RESULTS: usize = 8;
-
-// The most rows of a set.
 const MAX_ROWS: usize = 64;
 
-fn is_usable(map: &AffMap) -> bool
-    ensures { IsTrue result → IsUsable map.now }
+fn all_admissible(results: &[Expr]) -> bool
+    ensures { IsTrue result ↔ All Admissible results.now }
 {
-    map.results.len() <= MAX_RESULTS && are_admissible(map.results.as_slice())
+    results.iter().all(|e| is_admissible(e))
+}
+
+fn is_usable(map: &AffMap) -> bool
+    ensures { IsTrue result ↔ IsUsable map.now }
+{
+    map.results.len() <= MAX_RESULTS && all_admissible(map.results.as_slice())
+}
+
+fn all_rows_admissible(rows: &[SetRow]) -> bool
+    ensures { IsTrue result ↔ All (λ row. Admissible row.left) rows.now }
+{
+    rows.iter().all(|row| is_admissible(&row.left))
 }
 
 fn is_usable_set(set: &AffSet) -> bool
-    ensures { IsTrue result → IsUsableSet set.now }
+    ensures { IsTrue result ↔ IsUsableSet set.now }
 {
-    set.rows.len() <= MAX_ROWS && are_rows_admissible(set.rows.as_slice())
+    set.rows.len() <= MAX_ROWS && all_rows_admissible(set.rows.as_slice())
 }
 
 fn has_usable_maps(kind: &OpKind) -> bool
-    ensures { IsTrue result → HasUsableMaps kind.now }
+    ensures { IsTrue result ↔ HasUsableMaps kind.now }
 {
     match kind {
         OpKind::AffineFor { lower, upper, .. } => is_usable(lower) && is_usable(upper),
@@ -67,14 +76,14 @@ fn has_usable_maps(kind: &OpKind) -> bool
 }
 
 fn are_values(count: usize, ids: &[ValueId]) -> bool
-    ensures { IsTrue result → AreValues count ids.now }
+    ensures { IsTrue result ↔ AreValues count ids.now }
 {
     ids.iter().all(|id| id.0 < count as u64)
 }
 
 #[cycle(forming)]
-fn is_op_formed(count: usize, op: &Op) -> bool
-    ensures { IsTrue result → IsWellFormedOp count op.now }
+fn is_formed_op(count: usize, op: &Op) -> bool
+    ensures { IsTrue result ↔ IsWellFormedOp count op.now }
 {
     if !has_usable_maps(&op.kind) {
         return false;
@@ -82,15 +91,15 @@ fn is_op_formed(count: usize, op: &Op) -> bool
     if !are_values(count, op.results.as_slice()) {
         return false;
     }
-    are_regions_formed(count, op.regions.as_slice())
+    are_formed_regions(count, op.regions.as_slice())
 }
 
 #[cycle(forming)]
-fn are_regions_formed(count: usize, regions: &[Region]) -> bool
-    ensures { IsTrue result → All (IsWellFormedRegion count) regions.now }
+fn are_formed_regions(count: usize, regions: &[Region]) -> bool
+    ensures { IsTrue result ↔ All (IsWellFormedRegion count) regions.now }
 {
     for region in regions {
-        if !is_region_formed(count, region) {
+        if !is_formed_region(count, region) {
             return false;
         }
     }
@@ -98,37 +107,42 @@ fn are_regions_formed(count: usize, regions: &[Region]) -> bool
 }
 
 #[cycle(forming)]
-fn is_region_formed(count: usize, region: &Region) -> bool
-    ensures { IsTrue result → IsWellFormedRegion count region.now }
+fn is_formed_region(count: usize, region: &Region) -> bool
+    ensures { IsTrue result ↔ IsWellFormedRegion count region.now }
 {
     if !are_values(count, region.args.as_slice()) {
         return false;
     }
-    are_ops_formed(count, region.ops.as_slice())
+    are_formed_ops(count, region.ops.as_slice())
 }
 
 #[cycle(forming)]
-fn are_ops_formed(count: usize, ops: &[Op]) -> bool
-    ensures { IsTrue result → All (IsWellFormedOp count) ops.now }
+fn are_formed_ops(count: usize, ops: &[Op]) -> bool
+    ensures { IsTrue result ↔ All (IsWellFormedOp count) ops.now }
 {
     for op in ops {
-        if !is_op_formed(count, op) {
+        if !is_formed_op(count, op) {
             return false;
         }
     }
     true
 }
 
-fn is_func_formed(f: &Func) -> bool
-    ensures { IsTrue result → IsWellFormedFunc f.now }
+fn is_formed_func(f: &Func) -> bool
+    ensures { IsTrue result ↔ IsWellFormedFunc f.now }
 {
-    is_region_formed(f.values.len(), &f.body)
+    is_formed_region(f.values.len(), &f.body)
 }
 
-/// Whether each map of a module has at most 8 results and each set at most 64 rows, all affine and within
-/// the limits of their size, and all values that its functions define have a type. It takes no memory.
-pub fn is_well_formed(m: &Module) -> bool
-    ensures { IsTrue result → WellFormed m.now }
+fn are_formed_funcs(funcs: &[Func]) -> bool
+    ensures { IsTrue result ↔ All IsWellFormedFunc funcs.now }
 {
-    m.funcs.as_slice().iter().all(|f| is_func_formed(f))
+    funcs.iter().all(|f| is_formed_func(f))
+}
+
+/// Whether a module is as far well formed as a run needs it.
+pub fn is_well_formed(m: &Module) -> bool
+    ensures { IsTrue result ↔ WellFormed m.now }
+{
+    are_formed_funcs(m.funcs.as_slice())
 }
