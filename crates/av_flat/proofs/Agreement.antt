@@ -1,5 +1,5 @@
 -- On operations and types of Scalar mode both runs do the same.
-use Rattle.std.proofs.Common.{◌≡◌, ◌∙◌, ℕ, suc, ◌<◌, List, [], ◌∷◌, length, get_or, map, ap, sym, refl, inl, inr, subst, arith}
+use Rattle.std.proofs.Common.{◌≡◌, ◌∙◌, ℕ, suc, List, [], ◌∷◌, length, get_or, map, ap, sym, refl, inl, inr, subst, arith}
 use Rattle.std.proofs.Math.Path.{fun_ext}
 use Rattle.std.proofs.Math.ListN.{get_or-eq_default}
 use Rattle.std.proofs.lemmas.Bool.{cases_lt}
@@ -10,16 +10,15 @@ use Rattle.av_ir.specs.declared.ty.Ty.TheVariants.{Scalar, MemRef, Vector}
 use Rattle.av_ir.specs.declared.module.OpKind.{OpKind}
 use Rattle.av_ir.specs.declared.module.OpKind.TheVariants.{ArithConstant, ArithBinary, ArithCmpi, ArithSelect, ArithCast, ScfFor, ScfYield, VectorLoad, VectorStore, VectorMaskedLoad, VectorMaskedStore, VectorGather, VectorScatter, VectorBroadcast, VectorCreateMask, VectorReduction, VectorExtract, VectorInsert, VectorShuffle, VectorStep, VectorVscale}
 use Rattle.av_ir.specs.declared.module.ValueId.{ValueId}
-use Rattle.av_ir.specs.declared.module.Op.{Op, Op-F, out-Op, roll-Op, ind-Op, every_made-Op}
-use Rattle.av_ir.specs.declared.module.Region.{Region, Region-F, out-Region, roll-Region, ind-Region}
+use Rattle.av_ir.specs.declared.module.Op.{Op, Op-F, roll-Op}
+use Rattle.av_ir.specs.declared.module.Region.{Region, Region-F, roll-Region, ind-Region}
 use Rattle.av_ir.specs.declared.module.Func.{Func}
 use Rattle.av_ir.specs.declared.run.Args.{Args}
-use Rattle.av_ir.specs.Marks.{in_turn, marked_func}
-use Rattle.av_ir.specs.Run.{word, Act, Body, Env, Memory, Perform, Value, Run, Given, after, bind_values, ends, followed, handed_on, op_step, region_step, run_op, run_region, types_at, values_at, gives}
-use Rattle.av_ir.specs.Elements.{Element, Form, one, form_of, first_width, binary_element, compare_element, select_element, cast_element, elementwise}
+use Rattle.av_ir.specs.Run.{word, Act, Body, Env, Memory, Value, after, bind_values, ends, followed, handed_on, op_step, region_step, run_op, run_region, types_at, values_at, gives}
+use Rattle.av_ir.specs.Elements.{Element, one, form_of, first_width, binary_element, compare_element, select_element, cast_element, elementwise}
 use Rattle.av_ir.specs.ScalarRun.{argument_values, ended_with, first_memory, perform, run_scalar_of}
 use Rattle.av_ir.specs.FlatRun.{constant_in, perform_flat, run_flat_of}
-use Rattle.av_ir.specs.WellFormed.{HasNoVector, IsNoVector, IsScalarFunc, IsScalarKind, IsScalarOp, IsScalarRegion}
+use Rattle.av_ir.specs.WellFormed.{IsNoVector, IsScalarFunc, IsScalarKind, IsScalarOp, IsScalarRegion}
 use Rattle.av_ir.proofs.MarkedLevels.{run_op-roll, run_region-roll}
 use Rattle.av_flat.proofs.ScalarParts.{kind_is_scalar, regions_are_scalar, ops_are_scalar}
 

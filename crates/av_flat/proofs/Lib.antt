@@ -1,2 +1,4 @@
 pub mod ScalarParts
 pub mod Agreement
+pub mod Untouched
+pub mod Inside

@@ -15,7 +15,7 @@ use Rattle.av_ir.specs.declared.module.OpKind.{OpKind}
 use Rattle.av_ir.specs.declared.module.OpKind.TheVariants.{ArithConstant, ArithBinary, ArithCmpi, ArithSelect, ArithCast, ScfFor, VectorLoad, VectorStore, VectorMaskedLoad, VectorMaskedStore, VectorGather, VectorScatter, VectorBroadcast, VectorCreateMask, VectorReduction, VectorExtract, VectorInsert, VectorShuffle, VectorStep, VectorVscale}
 use Rattle.av_ir.specs.Run.{Value, word, lanes, Run, ends, traps, Given, gives}
 use Rattle.av_ir.specs.FlatRun.{perform_flat}
-use Rattle.av_ir.specs.Examples.{adding, cells_in, i8, i32, index, three_cells}
+use Rattle.av_ir.specs.Examples.{adding, cells_in, i8, index, three_cells}
 
 -- the types of 3 lanes and of 2 lanes, and of 2 lanes times the scale
 abbrev pub three : Elem → Ty

@@ -1,6 +1,5 @@
 -- What holds of flat runs.
-use Rattle.std.specs.Prelude.{◌≡◌, ℕ, List, map}
-use Rattle.std.specs.List.{All}
+use Rattle.std.specs.Prelude.{◌≡◌, ℕ, map}
 use Rattle.av_ir.specs.declared.run.Args.{Args}
 use Rattle.av_ir.specs.declared.module.Func.{Func}
 use Rattle.av_ir.specs.declared.module.Module.{Module}

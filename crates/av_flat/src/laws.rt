@@ -2,6 +2,7 @@
 ghost use Rattle.std.specs.Prelude.{ℕ};
 ghost use Rattle.av_flat.specs.Examples.{ElementExamples, IndexedExamples, LaneExamples, RowExamples, SignedLoopExamples};
 ghost use Rattle.av_flat.specs.Laws.{MarkedLaw, ScalarLaw};
+ghost use Rattle.av_flat.specs.Touches.{InsideLaw, UntouchedLaw};
 
 /// On a function of Scalar mode the flat run at each scale is the scalar run: in its end, its traps
 /// and its steps.
@@ -13,6 +14,17 @@ pub fn scalar_law()
 /// accesses marked is the scalar run of the module: in its end, its traps and its steps.
 pub fn marked_law()
     ensures { MarkedLaw }
+{}
+
+/// The places that an operation touches are inside their buffers, if it doesn't trap.
+pub fn inside_law()
+    ensures { InsideLaw }
+{}
+
+/// What no operation of a run touches stays: where a tripwire at a place lets a region end, the region
+/// ends alike without it, and the place holds at the end what it held.
+pub fn untouched_law()
+    ensures { UntouchedLaw }
 {}
 
 /// Small pieces of work on vectors, worked out by hand.

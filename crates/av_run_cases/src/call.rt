@@ -94,7 +94,7 @@ fn of_module(alloc: Global, case: &Case, name: &[u8]) -> Result<String, Why> {
             Ok(steps) => runs::run_case(alloc, &module, args, steps),
             Err(fault) => Err(fault.why),
         },
-        b"forms" => runs::forms_case(alloc, &module),
+        b"formed" => runs::formed_case(alloc, &module),
         b"fits" => runs::fits_case(alloc, &module, &args),
         b"bind" => runs::bind_case(alloc, &module, args),
         b"loops" => runs::loops_case(alloc, &module),

@@ -13,7 +13,6 @@ mod kinds;
 mod notation;
 mod places;
 mod runs;
-mod scalars;
 mod shapes;
 mod types;
 mod words;

@@ -4,7 +4,6 @@ ghost use Rattle.std.specs.List.{All};
 
 use crate::arguments::{buffers, push_word, shown_bound, shown_end};
 use crate::forming::is_well_formed;
-use crate::scalars::is_scalar;
 use crate::words::magnitudes;
 use av_affine::Seq;
 use av_cases::Why;
@@ -38,7 +37,7 @@ pub fn run_case(alloc: Global, module: &Module, args: Args, steps: u64) -> Resul
         return Err(Why::BadValue);
     }
     let func = &module.funcs.as_slice()[0];
-    if !fits(func, &args) || !is_well_formed(module) || !is_scalar(module) {
+    if !fits(func, &args) || !is_well_formed(module) {
         return Err(Why::BadValue);
     }
     match run_scalar(alloc, module, 0, args, steps) {
@@ -49,11 +48,10 @@ pub fn run_case(alloc: Global, module: &Module, args: Args, steps: u64) -> Resul
     }
 }
 
-/// Whether a module is well formed, and whether it has scalar operations alone.
-pub fn forms_case(alloc: Global, module: &Module) -> Result<String, Why> {
+/// Whether a module is well formed.
+pub fn formed_case(alloc: Global, module: &Module) -> Result<String, Why> {
     let formed = is_well_formed(module);
-    let scalar = is_scalar(module);
-    Ok(format!(in alloc; "{formed} {scalar}")?)
+    Ok(format!(in alloc; "{formed}")?)
 }
 
 /// Whether the first function of a module may be given these arguments.

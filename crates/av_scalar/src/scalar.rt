@@ -6,7 +6,7 @@ ghost use Rattle.av_ir.specs.declared.module.Region.{out-Region};
 ghost use Rattle.av_ir.specs.Run.{types_at};
 ghost use Rattle.av_ir.specs.ScalarRun.{argument_values, memref_types, run_scalar_of};
 ghost use Rattle.av_ir.specs.Values.{Fits};
-ghost use Rattle.av_ir.specs.WellFormed.{IsScalarModule, IsWellFormedFunc, WellFormed};
+ghost use Rattle.av_ir.specs.WellFormed.{IsWellFormedFunc, WellFormed};
 ghost use Rattle.av_scalar.specs.Meeting.{Meets};
 ghost use Rattle.av_scalar.specs.Names.{values};
 
@@ -97,8 +97,8 @@ fn run_func(alloc: Global, f: &Func, args: Args, steps: u64) -> Result<Ended, Ru
     Ok(ended(alloc, end, results)?)
 }
 
-/// The run of the function in this place of a module of scalar operations, with these arguments and at
-/// most so many steps.
+/// The run of the function in this place of a module, one element at a time, with these arguments and
+/// at most so many steps. An operation that Scalar mode doesn't have gives nothing.
 ///
 /// # Errors
 ///
@@ -113,7 +113,6 @@ pub fn run_scalar(
     requires place { func < length m.now.funcs }
     requires fits { (d : Func) → Fits (slice_index_or m.now.funcs func d) args }
     requires formed { WellFormed m.now }
-    requires scalar { IsScalarModule m.now }
     ensures { (d : Func) → Meets (run_scalar_of (slice_index_or m.now.funcs func d) args) steps result }
 {
     run_func(alloc, &m.funcs.as_slice()[func as usize], args, steps)
