@@ -10,7 +10,8 @@ use std::alloc::Global;
 
 const WIDTHS: [Width; 5] = [Width::W1, Width::W8, Width::W16, Width::W32, Width::W64];
 
-const OPERATIONS: [BinOp; 20] = [
+/// The binary operations.
+pub const OPERATIONS: [BinOp; 20] = [
     BinOp::Addi,
     BinOp::Subi,
     BinOp::Muli,
@@ -33,7 +34,8 @@ const OPERATIONS: [BinOp; 20] = [
     BinOp::Maxui,
 ];
 
-const PREDICATES: [Pred; 10] = [
+/// The predicates of comparisons.
+pub const PREDICATES: [Pred; 10] = [
     Pred::Eq,
     Pred::Ne,
     Pred::Slt,
@@ -46,7 +48,8 @@ const PREDICATES: [Pred; 10] = [
     Pred::Uge,
 ];
 
-const CASTS: [CastOp; 5] = [
+/// The casts.
+pub const CASTS: [CastOp; 5] = [
     CastOp::Extsi,
     CastOp::Extui,
     CastOp::Trunci,
@@ -54,7 +57,8 @@ const CASTS: [CastOp; 5] = [
     CastOp::IndexCastui,
 ];
 
-const KINDS: [Kind9; 9] = [
+/// The kinds of reductions.
+pub const KINDS: [Kind9; 9] = [
     Kind9::Add,
     Kind9::Mul,
     Kind9::And,

@@ -1,8 +1,9 @@
 //! The calls that a case may ask for, by the words of its field `do`.
 
 use crate::arguments::arguments;
+use crate::notation::functions;
 use crate::words::{indices, words_of};
-use crate::{bits, built, expressions, places, runs, shapes};
+use crate::{bits, expressions, places, runs, shapes};
 use av_cases::{Case, CaseFault, Why};
 use av_ir::{Module, func_of};
 use std::alloc::Global;
@@ -93,6 +94,7 @@ fn of_module(alloc: Global, case: &Case, name: &[u8]) -> Result<String, Why> {
             Ok(steps) => runs::run_case(alloc, &module, args, steps),
             Err(fault) => Err(fault.why),
         },
+        b"formed" => runs::formed_case(alloc, &module),
         b"fits" => runs::fits_case(alloc, &module, &args),
         b"bind" => runs::bind_case(alloc, &module, args),
         b"loops" => runs::loops_case(alloc, &module),
@@ -101,11 +103,10 @@ fn of_module(alloc: Global, case: &Case, name: &[u8]) -> Result<String, Why> {
     }
 }
 
-// The module of the field `input`, or one that is built: `twice`, or functions of the names in `with`.
+// The module of the text in the field `input`, or else of the functions in the field `funcs`.
 fn module_of(alloc: Global, case: &Case) -> Result<Module, Why> {
     match case.bytes("input") {
-        b"twice" => Ok(built::twice(alloc)?),
-        b"" => Ok(built::named(alloc, words_of(alloc, case, "with")?.as_slice())?),
+        b"" => functions(alloc, case.bytes("funcs")),
         text => runs::module(alloc, text),
     }
 }

@@ -117,7 +117,8 @@ fn are_rows_admissible(rows: &[SetRow]) -> bool
     rows.iter().all(|row| is_admissible(&row.left))
 }
 
-fn map(alloc: Global, written: &[u8]) -> Result<AffMap, Why> {
+/// The map of a text.
+pub fn map(alloc: Global, written: &[u8]) -> Result<AffMap, Why> {
     map_in(alloc, &attribute(alloc, written)?)
 }
 
@@ -128,7 +129,8 @@ fn map_in(alloc: Global, attribute: &Attr) -> Result<AffMap, Why> {
     }
 }
 
-fn set(alloc: Global, written: &[u8]) -> Result<AffSet, Why> {
+/// The set of a text.
+pub fn set(alloc: Global, written: &[u8]) -> Result<AffSet, Why> {
     set_in(alloc, &attribute(alloc, written)?)
 }
 

@@ -9,6 +9,7 @@ use av_affine::{AffMap, AffSet, Expr, SetRow, is_admissible};
 use av_ir::{Func, Module, Op, OpKind, Region, ValueId};
 
 const MAX_RESULTS: usize = 8;
+
 const MAX_ROWS: usize = 64;
 
 fn all_admissible(results: &[Expr]) -> bool

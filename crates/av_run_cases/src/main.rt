@@ -6,13 +6,15 @@
 
 mod arguments;
 mod bits;
-mod built;
 mod call;
 mod expressions;
 mod forming;
+mod kinds;
+mod notation;
 mod places;
 mod runs;
 mod shapes;
+mod types;
 mod words;
 
 use anyhow::{Result, ensure};
@@ -21,8 +23,8 @@ use std::alloc::Global;
 use std::io;
 
 // The fields of a case.
-const FIELDS: [&str; 9] = [
-    "do", "with", "input", "args", "steps", "dims", "syms", "at", "gives",
+const FIELDS: [&str; 10] = [
+    "do", "with", "input", "funcs", "args", "steps", "dims", "syms", "at", "gives",
 ];
 
 fn main(rt: HostRuntime) -> Result<()> {

@@ -48,6 +48,12 @@ pub fn run_case(alloc: Global, module: &Module, args: Args, steps: u64) -> Resul
     }
 }
 
+/// Whether a module is well formed.
+pub fn formed_case(alloc: Global, module: &Module) -> Result<String, Why> {
+    let formed = is_well_formed(module);
+    Ok(format!(in alloc; "{formed}")?)
+}
+
 /// Whether the first function of a module may be given these arguments.
 pub fn fits_case(alloc: Global, module: &Module, args: &Args) -> Result<String, Why> {
     let Some(func) = module.funcs.as_slice().first() else {

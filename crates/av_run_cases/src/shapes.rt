@@ -7,8 +7,8 @@ use av_cases::Why;
 use av_shapes::{MAX_SCALE, Shape};
 use std::alloc::Global;
 
-// The shape of a word.
-fn shape(alloc: Global, word: &str) -> Result<Shape, Why> {
+/// The shape of a word.
+pub fn shape(alloc: Global, word: &str) -> Result<Shape, Why> {
     let (word, scalable) = match word.strip_suffix("]") {
         Some(rest) => (rest, true),
         None => (word, false),

@@ -27,6 +27,22 @@ pub fn named<T: Copy + Debug>(alloc: Global, all: &[T], word: &str) -> Result<T,
     Err(Why::BadValue)
 }
 
+/// The one of these that a name of MLIR's names, as `index_cast` names `IndexCast`.
+pub fn spelled<T: Copy + Debug>(alloc: Global, all: &[T], name: &str) -> Result<T, Why> {
+    let mut letters = String::new(alloc);
+    for part in name.split('_') {
+        letters.push_str(part)?;
+    }
+    for one in all {
+        let one = *one;
+        let shown = format!(in alloc; "{one:?}")?;
+        if shown.as_str().eq_ignore_ascii_case(letters.as_str()) {
+            return Ok(one);
+        }
+    }
+    Err(Why::BadValue)
+}
+
 /// A number without a sign, of decimal digits, or of those of base 16 behind `0x`.
 pub fn magnitude(word: &str) -> Result<u64, Why> {
     let number = match word.strip_prefix("0x") {
