@@ -8,7 +8,7 @@ use Rattle.av_dialects.specs.declared.item.Key.TheVariants as key
 use Rattle.av_dialects.specs.declared.item.Lead.{Lead}
 use Rattle.av_dialects.specs.declared.item.Mode.{Mode}
 use Rattle.av_dialects.specs.declared.item.Results.{Results}
-use Rattle.av_dialects.specs.declared.rows.TheConstants.{KINDS, PREDICATES, ROWS}
+use Rattle.av_dialects.specs.declared.rows.TheConstants.{KINDS, OVERFLOW_FLAGS, PREDICATES, ROWS}
 
 -- a part of a form, and what stands before it
 abbrev pub Part : Type 0
@@ -36,6 +36,10 @@ predicates = map (λ word. word.now) PREDICATES.now
 
 unfoldable pub kinds : List (List ℕ)
 kinds = map (λ word. word.now) KINDS.now
+
+-- the words that may stand in `overflow<..>`
+unfoldable pub overflow_flags : List (List ℕ)
+overflow_flags = map (λ word. word.now) OVERFLOW_FLAGS.now
 
 -- the name of a property
 abbrev pub property_of : Key → List ℕ

@@ -12,7 +12,7 @@ use Rattle.av_dialects.specs.declared.item.Slots.{Slots}
 use Rattle.av_dialects.specs.declared.item.Slots.TheVariants as slots
 use Rattle.av_dialects.specs.declared.item.Typing.TheVariants as typing
 use Rattle.av_dialects.specs.declared.item.Wanted.TheVariants as wanted
-use Rattle.av_dialects.specs.Rows.{Part, HasName, are_distinct, forms, kinds, predicates, results as result_column}
+use Rattle.av_dialects.specs.Rows.{Part, HasName, are_distinct, forms, kinds, overflow_flags, predicates, results as result_column}
 use Rattle.av_dialects.specs.Ends.{end_plainly}
 use Rattle.av_dialects.specs.Types.{types_are_written, all_types_are_written}
 
@@ -30,7 +30,7 @@ TypesLaw = all_types_are_written result_column forms ≡ true
 
 -- the words of a property differ, too
 abbrev pub WordsLaw : Type 0
-WordsLaw = (are_distinct predicates ≡ true) × (are_distinct kinds ≡ true)
+WordsLaw = (are_distinct predicates ≡ true) × (are_distinct kinds ≡ true) × (are_distinct overflow_flags ≡ true)
 
 -- ---- examples: for each item a form that keeps these rules, and one that doesn't
 abbrev pub keeps_rules : Results × List Part → Bool

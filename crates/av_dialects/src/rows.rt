@@ -111,3 +111,6 @@ pub const PREDICATES: &[&str] = &[
 pub const KINDS: &[&str] = &[
     "add", "mul", "and", "or", "xor", "minsi", "minui", "maxsi", "maxui",
 ];
+
+/// The words of `overflow`.
+pub const OVERFLOW_FLAGS: &[&str] = &["nsw", "nuw"];
