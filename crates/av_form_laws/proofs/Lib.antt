@@ -2,3 +2,4 @@ pub mod Forms
 pub mod Given
 pub mod Lenses
 pub mod Printed
+pub mod Tables

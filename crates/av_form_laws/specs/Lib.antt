@@ -4,5 +4,6 @@ pub mod Items
 pub mod Lines
 pub mod Properties
 pub mod Rows
+pub mod Tables
 pub mod Values
 pub mod Words
