@@ -8,7 +8,10 @@ use Rattle.av_dialects.specs.declared.item.Slot.{Slot}
 use Rattle.av_dialects.specs.declared.item.Slot.TheVariants as slot
 use Rattle.av_dialects.specs.declared.item.Slots.{Slots}
 use Rattle.av_dialects.specs.declared.item.Slots.TheVariants as slots
-use Rattle.av_form_laws.specs.Items.{Fits, HasFirst, StandsAt, chosen, give, opened, rest, taken}
+use Rattle.av_tree.specs.declared.attribute.Named.{Named}
+use Rattle.std.specs.Prelude.{codes}
+use Rattle.av_form_laws.specs.Attributes.{constant_type, first_applied, first_constant}
+use Rattle.av_form_laws.specs.Items.{applied_entry, Fits, HasFirst, StandsAt, chosen, give, opened, rest, taken}
 use Rattle.av_form_laws.specs.Lines.{Line, all_written, at_slot, back, cleared, filled, first_text, front, known, put_at_slot, type_at, unwritten}
 
 -- ---- operands
@@ -60,6 +63,13 @@ cleared-operands (slots.Two a b) n = put-operands b None (put_at_slot a None n) 
 cleared-operands (slots.Three a b c) n =
     put-operands c None (put_at_slot b None (put_at_slot a None n)) ∙ put-operands b None (put_at_slot a None n) ∙ put-operands a None n
 
+-- ---- a property and operands
+applied-back : (k : ℕ) (n : Line) (e : Named) → n.properties ≡ e ∷ drop 1 n.properties
+    → record n { operands = front k n.operands ++ back k n.operands; properties = e ∷ drop 1 n.properties } ≡ n
+applied-back k n e h =
+    ap (λ (xs : List (List ℕ)). let m : Line = record n { operands = xs; properties = e ∷ drop 1 n.properties } in m) (front-back k n.operands)
+    ∙ ap (λ (ps : List Named). let m : Line = record n { properties = ps } in m) (sym h)
+
 -- ---- each item
 -- put back where it was taken
 pub give-taken : (i : Item) (k : ℕ) (n : Line) → Fits i k n → give i (taken i k n) (rest i k n) ≡ n
@@ -79,6 +89,11 @@ give-taken (item.Angled key) k n h = ap (λ ps. let m : Line = record n { proper
 give-taken (item.Numbers key) k n h = ap (λ ps. let m : Line = record n { properties = ps } in m) (sym h)
 give-taken item.Overflow k n h = ap (λ ps. let m : Line = record n { properties = ps } in m) (sym h.1)
 give-taken item.Marks k n h = refl
+give-taken item.Constant k n h =
+    ap (λ ps. let m : Line = record n { properties = ps; out_types = constant_type (first_constant n.properties) ∷ [] } in m) (sym h.2)
+    ∙ ap (λ (ts : List (Option TypeText)). let m : Line = record n { out_types = ts } in m) (sym h.1)
+give-taken item.Map k n h = applied-back k n (applied_entry (codes "map") (first_applied n.properties)) h.1
+give-taken item.Set k n h = applied-back k n (applied_entry (codes "condition") (first_applied n.properties)) h.1
 give-taken _ k n h = absurd h
 
 -- the operands of both parts are those of the operation
@@ -98,4 +113,7 @@ opened-taken (item.Angled key) k n h = refl
 opened-taken (item.Numbers key) k n h = refl
 opened-taken item.Overflow k n h = refl
 opened-taken item.Marks k n h = refl
+opened-taken item.Constant k n h = refl
+opened-taken item.Map k n h = none-each k n.operands
+opened-taken item.Set k n h = none-each k n.operands
 opened-taken _ k n h = absurd h

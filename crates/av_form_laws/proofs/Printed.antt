@@ -1,13 +1,15 @@
 -- What an item is printed with is what it may be.
-use Rattle.std.proofs.Common.{◌≡◌, ℕ, Bool, true, false, ◌&&◌, List, [], ◌∷◌, drop, Option, None, Some, refl}
+use Rattle.std.proofs.Common.{◌≡◌, ℕ, Bool, true, false, ◌&&◌, List, [], ◌∷◌, ◌++◌, length, take, drop, Option, None, Some, refl, sym, subst}
+use Rattle.std.proofs.lemmas.List.{append-nil, take-append-drop}
 use Rattle.std.specs.List.{list_all}
 use Rattle.av_tree.specs.declared.written.TypeText.{TypeText, out-TypeText}
 use Rattle.av_tree.specs.declared.attribute.Named.{Named}
 use Rattle.av_dialects.specs.declared.item.Item.{Item}
 use Rattle.av_dialects.specs.declared.item.Item.TheVariants as item
 use Rattle.av_dialects.specs.declared.item.Wanted.TheVariants as wanted
-use Rattle.av_form_laws.specs.Items.{AreTypes, Fits, HasAtMostOne, HasFirst, IsCondition, IsWanted, condition_type, chosen, is_wanted, taken}
-use Rattle.av_form_laws.specs.Grammar.{Always, Any, Gives, IsFlag, Several, a_type, a_word, angled, chosen_alone, chosen_by, choice_words, element, mark_words, marks, no_marks, no_operand, no_overflow, no_typed, none, numbers, one, one_more, operand, operand_more, operands, overflow, overflow_words, some, spell, typed, typed_words}
+use Rattle.av_form_laws.specs.Items.{IsTypeOf, AreTypes, Fits, HasAtMostOne, HasFirst, IsCondition, IsWanted, condition_type, chosen, is_wanted, taken}
+use Rattle.av_form_laws.specs.Attributes.{Constant, constant_type, dimensions_of, first_applied, first_constant, of_elements, of_number, truth}
+use Rattle.av_form_laws.specs.Grammar.{MapOperands, constant_words, dense_constant, dimensions, false_alone, in_round, map_applied, number_constant, operand_words, set_applied, true_alone, with_symbols, Always, Any, Gives, IsFlag, Several, a_type, a_word, angled, chosen_alone, chosen_by, choice_words, element, mark_words, marks, no_marks, no_operand, no_overflow, no_typed, none, numbers, one, one_more, operand, operand_more, operands, overflow, overflow_words, some, spell, typed, typed_words}
 use Rattle.av_form_laws.specs.Lines.{Line, first_text, front, known, type_at}
 use Rattle.av_form_laws.specs.Properties.{first_flags, first_numbers, first_word, is_flag}
 use Rattle.av_form_laws.specs.Words.{Word, behind_commas, between_commas, number, of_type, plain, value}
@@ -71,6 +73,20 @@ marks-give : (es : List Named) → Gives item.Marks (mark_words es) es
 marks-give [] = no_marks
 marks-give (e ∷ es) = marks (e ∷ es)
 
+constant-gives : (c : Constant) → IsTypeOf (constant_type c) → Gives item.Constant (constant_words c) c
+constant-gives (of_number z t) h = number_constant z t h
+constant-gives (of_elements e t) h = dense_constant e t h
+constant-gives (truth true) h = true_alone
+constant-gives (truth false) h = false_alone
+
+operands-of : (vs ss : List (List ℕ)) → MapOperands (operand_words vs ss) (vs ++ ss)
+operands-of vs [] = subst (MapOperands (in_round (between_commas value vs))) (sym (append-nil vs)) (dimensions (between_commas value vs) vs (any-from value vs))
+operands-of vs (s ∷ ss) =
+    with_symbols (between_commas value vs) (between_commas value (s ∷ ss)) vs (s ∷ ss) (any-from value vs) (any-from value (s ∷ ss))
+
+all-operands : (d : ℕ) (vs : List (List ℕ)) → MapOperands (operand_words (take d vs) (drop d vs)) vs
+all-operands d vs = subst (MapOperands (operand_words (take d vs) (drop d vs))) (take-append-drop d vs) (operands-of (take d vs) (drop d vs))
+
 -- ---- each item
 pub gives : (i : Item) (k : ℕ) (n : Line) → Fits i k n → Gives i (spell i (taken i k n)) (taken i k n)
 gives (item.Operand t) k n h = operand t (first_text n.operands)
@@ -88,4 +104,11 @@ gives (item.Numbers key) k n h =
     numbers key (between_commas number (first_numbers n.properties)) (first_numbers n.properties) (any-from number (first_numbers n.properties))
 gives item.Overflow k n h = overflow-gives (first_flags n.properties) h.0
 gives item.Marks k n h = marks-give n.attrs
+gives item.Constant k n h = constant-gives (first_constant n.properties) h.0
+gives item.Map k n h =
+    map_applied (first_applied n.properties) _ (front k n.operands) h.0
+    (all-operands (dimensions_of (first_applied n.properties) (length (front k n.operands))) (front k n.operands))
+gives item.Set k n h =
+    set_applied (first_applied n.properties) _ (front k n.operands) h.0
+    (all-operands (dimensions_of (first_applied n.properties) (length (front k n.operands))) (front k n.operands))
 gives _ k n h = absurd h

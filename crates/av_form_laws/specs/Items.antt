@@ -1,9 +1,10 @@
 -- An item of a form as a lens between an operation and one value: the value, the operation without it, and the value put back.
 -- The number is that of the operands that the parts behind the item need in any case.
-use Rattle.std.specs.Prelude.{ℕ, ◌≡◌, Bool, true, false, List, [], ◌∷◌, ◌++◌, drop, Option, None, Some}
+use Rattle.std.specs.Prelude.{ℕ, ◌≡◌, Bool, true, false, List, [], ◌∷◌, ◌++◌, drop, Option, None, Some, codes}
 use Rattle.std.specs.List.{list_all}
 use Rattle.av_tree.specs.declared.written.TypeText.{TypeText, TypeText-F, out-TypeText}
 use Rattle.av_tree.specs.declared.written.TypeText.TheOpen as types
+use Rattle.av_tree.specs.declared.attribute.Named.{Named}
 use Rattle.av_dialects.specs.declared.item.Item.{Item}
 use Rattle.av_dialects.specs.declared.item.Item.TheVariants as item
 use Rattle.av_dialects.specs.declared.item.Slots.{Slots}
@@ -11,8 +12,9 @@ use Rattle.av_dialects.specs.declared.item.Slots.TheVariants as slots
 use Rattle.av_dialects.specs.declared.item.Slot.TheVariants as slot
 use Rattle.av_dialects.specs.declared.item.Wanted.{Wanted}
 use Rattle.av_dialects.specs.declared.item.Wanted.TheVariants as wanted
+use Rattle.av_form_laws.specs.Attributes.{Applied, Constant, applied_attr, constant_attr, constant_type, first_applied, first_constant, is_map, is_set}
 use Rattle.av_form_laws.specs.Lines.{Line, all_written, at_slot, back, cleared, filled, first_text, front, known, put_at_slot, type_at, unwritten}
-use Rattle.av_form_laws.specs.Properties.{first_flags, first_numbers, first_word, flag_entries, is_flag, is_word_of, numbers_entry, without_flags, word_entry}
+use Rattle.av_form_laws.specs.Properties.{entry, first_flags, first_numbers, first_word, flag_entries, is_flag, is_word_of, numbers_entry, without_flags, word_entry}
 use Rattle.av_form_laws.specs.Values.{Of}
 
 -- ---- the types of a choice
@@ -25,6 +27,13 @@ chosen = slots.One (slot.Input 1)
 
 abbrev pub choice_types : Option TypeText → TypeText → List (Option TypeText)
 choice_types condition t = condition ∷ Some t ∷ Some t ∷ []
+
+-- ---- properties
+abbrev pub constant_entry : Constant → Named
+constant_entry c = entry (codes "value") (constant_attr c)
+
+abbrev pub applied_entry : List ℕ → Applied → Named
+applied_entry name a = entry name (applied_attr a)
 
 -- ---- the value of an item
 abbrev pub taken : (i : Item) → ℕ → Line → Of i
@@ -40,6 +49,9 @@ taken (item.Angled key) k n = first_word n.properties
 taken (item.Numbers key) k n = first_numbers n.properties
 taken item.Overflow k n = first_flags n.properties
 taken item.Marks k n = n.attrs
+taken item.Constant k n = first_constant n.properties
+taken item.Map k n = (first_applied n.properties, front k n.operands)
+taken item.Set k n = (first_applied n.properties, front k n.operands)
 taken _ k n = tt
 
 -- ---- the operation without it
@@ -56,6 +68,9 @@ rest (item.Angled key) k n = record n { properties = drop 1 n.properties }
 rest (item.Numbers key) k n = record n { properties = drop 1 n.properties }
 rest item.Overflow k n = record n { properties = without_flags n.properties }
 rest item.Marks k n = record n { attrs = [] }
+rest item.Constant k n = record n { properties = drop 1 n.properties; out_types = None ∷ [] }
+rest item.Map k n = record n { operands = back k n.operands; properties = drop 1 n.properties }
+rest item.Set k n = record n { operands = back k n.operands; properties = drop 1 n.properties }
 rest _ k n = n
 
 -- ---- the value put back
@@ -72,6 +87,9 @@ give (item.Angled key) word n = record n { properties = word_entry key word ∷ 
 give (item.Numbers key) numbers n = record n { properties = numbers_entry key numbers ∷ n.properties }
 give item.Overflow flags n = record n { properties = flag_entries flags ++ n.properties }
 give item.Marks entries n = record n { attrs = entries }
+give item.Constant c n = record n { properties = constant_entry c ∷ n.properties; out_types = constant_type c ∷ [] }
+give item.Map (a, vs) n = record n { operands = vs ++ n.operands; properties = applied_entry (codes "map") a ∷ n.properties }
+give item.Set (a, vs) n = record n { operands = vs ++ n.operands; properties = applied_entry (codes "condition") a ∷ n.properties }
 give _ v n = n
 
 -- a type that isn't written yet for each operand of the value
@@ -81,6 +99,8 @@ opened item.OptionalOperand vs = unwritten vs
 opened item.Operands vs = unwritten vs
 opened item.TypedOperands (vs, ts) = unwritten vs
 opened item.Element (buffer, indices) = None ∷ unwritten indices
+opened item.Map (a, vs) = unwritten vs
+opened item.Set (a, vs) = unwritten vs
 opened _ v = []
 
 -- ---- an operation that has what the item is
@@ -121,6 +141,11 @@ abbrev pub IsCondition : Option TypeText → Type 0
 IsCondition None = Unit {0}
 IsCondition (Some c) = IsWanted wanted.Vector c
 
+-- a constant's type, where it is written
+abbrev pub IsTypeOf : Option TypeText → Type 0
+IsTypeOf None = Unit {0}
+IsTypeOf (Some t) = IsWanted wanted.Any t
+
 abbrev pub Fits : Item → ℕ → Line → Type 0
 Fits (item.Operand _) k n = HasFirst n.operands
 Fits item.OptionalOperand k n = HasAtMostOne (front k n.operands)
@@ -140,4 +165,13 @@ Fits (item.Numbers key) k n = n.properties ≡ numbers_entry key (first_numbers 
 Fits item.Overflow k n =
     (list_all is_flag (first_flags n.properties) ≡ true) × (n.properties ≡ flag_entries (first_flags n.properties) ++ without_flags n.properties)
 Fits item.Marks k n = Unit {0}
+Fits item.Constant k n =
+    IsTypeOf (constant_type (first_constant n.properties)) × (n.out_types ≡ constant_type (first_constant n.properties) ∷ [])
+    × (n.properties ≡ constant_entry (first_constant n.properties) ∷ drop 1 n.properties)
+Fits item.Map k n =
+    (is_map (first_applied n.properties) ≡ true)
+    × (n.properties ≡ applied_entry (codes "map") (first_applied n.properties) ∷ drop 1 n.properties)
+Fits item.Set k n =
+    (is_set (first_applied n.properties) ≡ true)
+    × (n.properties ≡ applied_entry (codes "condition") (first_applied n.properties) ∷ drop 1 n.properties)
 Fits _ k n = ⊥

@@ -1,3 +1,4 @@
+pub mod Attributes
 pub mod FormLaws
 pub mod Grammar
 pub mod Items

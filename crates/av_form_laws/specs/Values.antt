@@ -5,6 +5,7 @@ use Rattle.av_tree.specs.declared.attribute.Named.{Named}
 use Rattle.av_dialects.specs.declared.item.Item.{Item}
 use Rattle.av_dialects.specs.declared.item.Item.TheVariants as item
 use Rattle.av_dialects.specs.Rows.{Part}
+use Rattle.av_form_laws.specs.Attributes.{Applied, Constant}
 
 -- of items that aren't done here nothing is known, and no operation fits them
 abbrev pub Of : Item → Type 0
@@ -21,6 +22,10 @@ Of (item.Angled _) = List ℕ
 Of (item.Numbers _) = List ℤ
 Of item.Overflow = List (List ℕ)
 Of item.Marks = List Named
+Of item.Constant = Constant
+-- the map or set, and its operands, those of dimensions first
+Of item.Map = Applied × List (List ℕ)
+Of item.Set = Applied × List (List ℕ)
 Of _ = Unit {0}
 
 -- one value for each part

@@ -1,9 +1,12 @@
--- The words of a form. A type, a dictionary and a number with its sign stand each as one word: how these are spelled is the matter of
--- other laws.
+-- The words of a form. A type, a map, a set, a dictionary, elements with their type, and a number with its sign stand each as one word:
+-- how these are spelled is the matter of other laws.
 use Rattle.std.specs.Prelude.{ℕ, ℤ, List, [], ◌∷◌, codes}
 use Rattle.av_lex.specs.declared.token.Sign.{Sign}
 use Rattle.av_lex.specs.declared.token.Sign.TheVariants as signs
 use Rattle.av_tree.specs.declared.written.TypeText.{TypeText}
+use Rattle.av_tree.specs.declared.written.MapText.{MapText}
+use Rattle.av_tree.specs.declared.written.SetText.{SetText}
+use Rattle.av_tree.specs.declared.attribute.Element.{Element}
 use Rattle.av_tree.specs.declared.attribute.Named.{Named}
 use Rattle.av_dialects.specs.declared.item.Lead.{Lead}
 use Rattle.av_dialects.specs.declared.item.Lead.TheVariants as lead
@@ -18,6 +21,12 @@ pub data Word : Type 0 where
   of_type : TypeText → Word
   -- `{affvec.of = 3 : i64}`
   entries : List Named → Word
+  -- `dense<[1, 2]> : vector<2xi32>`
+  dense : Element → TypeText → Word
+  a_map : MapText → Word
+  a_set : SetText → Word
+  -- `#name`
+  hash : List ℕ → Word
 
 abbrev pub comma : Word
 comma = sign signs.Comma
