@@ -1,3 +1,4 @@
+pub mod Examples
 pub mod Forms
 pub mod Given
 pub mod Lenses

@@ -1,4 +1,5 @@
 pub mod Attributes
+pub mod Examples
 pub mod FormLaws
 pub mod Grammar
 pub mod Items

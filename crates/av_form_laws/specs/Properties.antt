@@ -28,7 +28,7 @@ words_of _ = []
 -- the place of a word among these
 abbrev pub place_in : List (List ℕ) → List ℕ → ℕ
 place_in [] word = 0
-place_in (w ∷ ws) word = if bytes_eq w word then 0 else suc (place_in ws word)
+place_in (w ∷ ws) word = if bytes_eq word w then 0 else suc (place_in ws word)
 
 abbrev pub word_at : List (List ℕ) → ℕ → List ℕ
 word_at [] n = []
