@@ -1,0 +1,93 @@
+-- Operations that fit forms, and others that don't, worked out.
+use Rattle.std.proofs.Common.{◌≡◌, ℕ, Bool, true, false, ◌&&◌, ◌||◌, suc, List, [], ◌∷◌, Option, None, Some, refl, ap, sym, subst, ◌∙◌, if◌then◌else◌}
+use Rattle.std.specs.Prelude.{ℤ, codes, pos}
+use Rattle.std.specs.List.{list_any}
+use Rattle.std.specs.Str.{bytes_eq}
+use Rattle.std.proofs.lemmas.Slice.Eq.{bytes_eq-Decides}
+use Rattle.av_tree.specs.declared.attribute.Attr.{Attr, Attr-F, out-Attr, out-roll-Attr}
+use Rattle.av_tree.specs.declared.attribute.Attr.TheVariants as attr
+use Rattle.av_tree.specs.declared.attribute.Attr.TheOpen as open_attr
+use Rattle.av_tree.specs.declared.attribute.Named.{Named, Named-F, out-Named, out-roll-Named}
+use Rattle.av_tree.specs.declared.written.TypeText.{TypeText}
+use Rattle.av_dialects.specs.declared.item.Key.{Key}
+use Rattle.av_dialects.specs.declared.item.Key.TheVariants as key
+use Rattle.av_dialects.specs.Rows.{predicates}
+use Rattle.av_form_laws.specs.Examples.{CastExamples, LineExamples, MarkExamples, OperandExamples, TypedExamples, WordsFit}
+use Rattle.av_form_laws.specs.Lines.{Line}
+use Rattle.av_form_laws.specs.Properties.{entry, first_word, is_word_of, long, place_in, word_at, word_entry, word_in}
+
+cast-examples : CastExamples
+cast-examples t u i j = (
+  (tt, ((i, refl), ((j, refl), refl))),
+  refl,
+  (λ h. h.0),
+  (λ h. let e : Some None ≡ Some (Some _) = h.1.0.1 in cc),
+  (λ h. let e : _ ∷ [] ≡ [] = ap (λ (m : Line). m.operands) h.1.1.1 in cc),
+)
+
+operand-examples : OperandExamples
+operand-examples = (
+  (tt, (tt, refl)),
+  (tt, (refl, refl)),
+  (λ h. let e : _ ∷ [] ≡ [] = h.1.0 in cc),
+  (tt, refl),
+  (λ h. h.0),
+  (tt, refl),
+  (λ h. h.0),
+)
+
+typed-examples : TypedExamples
+typed-examples t v i j = (
+  ((refl, refl, refl), refl),
+  ((refl, tt, ap (λ q. q && true) i), refl),
+  (λ h. h.0.1),
+  (tt, (tt, (tt, ((tt, i, refl, refl), refl)))),
+  (tt, (tt, (tt, ((j, i, refl, refl), refl)))),
+  (λ s no h. no h.1.1.1.0.0),
+)
+
+mark-examples : MarkExamples
+mark-examples e = ((tt, refl), (λ h. let d : _ ∷ [] ≡ [] = ap (λ (m : Line). m.attrs) h in cc))
+
+-- ---- words
+value-of : (name : List ℕ) (x : Attr) → (out-Named (entry name x)).value ≡ x
+value-of name x = ap (λ (e : Named-F Attr Named). e.value) (out-roll-Named (record { name = name; value = x }))
+
+out-number : (z : ℤ) (t : TypeText) → out-Attr (attr.Number z t) ≡ open_attr.Number z t
+out-number z t = ap out-Attr (sym (attr.rolls-Number z t)) ∙ out-roll-Attr (open_attr.Number z t)
+
+out-hash : (name : List ℕ) (words : List (List ℕ)) → out-Attr (attr.Hash name words) ≡ open_attr.Hash name words
+out-hash name words = ap out-Attr (sym (attr.rolls-Hash name words)) ∙ out-roll-Attr (open_attr.Hash name words)
+
+one-more : (first : Bool) (word w : List ℕ) (ws : List (List ℕ)) → bytes_eq word w ≡ first → (first || list_any (bytes_eq word) ws) ≡ true
+    → (list_any (bytes_eq word) ws ≡ true → word_at ws (place_in ws word) ≡ word)
+    → word_at (w ∷ ws) (if first then 0 else suc (place_in ws word)) ≡ word
+one-more true word w ws e h others = sym ((bytes_eq-Decides word w).0 e)
+one-more false word w ws e h others = others h
+
+word-found : (ws : List (List ℕ)) (word : List ℕ) → list_any (bytes_eq word) ws ≡ true → word_at ws (place_in ws word) ≡ word
+word-found [] word h = cc
+word-found (w ∷ ws) word h = one-more (bytes_eq word w) word w ws refl h (word-found ws word)
+
+said : (k : Key) (word : List ℕ) → is_word_of k word ≡ true → (es : List Named) → first_word (word_entry k word ∷ es) ≡ word
+said key.Predicate word h es =
+    ap (λ x. word_in (out-Attr x)) (value-of (codes "predicate") (attr.Number (pos (place_in predicates word)) long))
+    ∙ ap word_in (out-number (pos (place_in predicates word)) long) ∙ word-found predicates word h
+said key.Kind word h es =
+    ap (λ x. word_in (out-Attr x)) (value-of (codes "kind") (attr.Hash (codes "#vector.kind") (word ∷ [])))
+    ∙ ap word_in (out-hash (codes "#vector.kind") (word ∷ []))
+said key.StaticPosition word h es = cc
+said key.Mask word h es = cc
+
+word-fits : (k : Key) (word : List ℕ) → is_word_of k word ≡ true → (es : List Named)
+    → (is_word_of k (first_word (word_entry k word ∷ es)) ≡ true)
+    × (word_entry k word ∷ es ≡ word_entry k (first_word (word_entry k word ∷ es)) ∷ es)
+word-fits k word h es =
+    let e : first_word (word_entry k word ∷ es) ≡ word = said k word h es in
+    (subst (λ (u : List ℕ). is_word_of k u ≡ true) (sym e) h, ap (λ (u : List ℕ). word_entry k u ∷ es) (sym e))
+
+words-fit : WordsFit
+words-fit k word h i n = (word-fits k word h n.properties, word-fits k word h n.properties)
+
+pub line-examples : LineExamples
+line-examples = (cast-examples, operand-examples, typed-examples, mark-examples, words-fit)

@@ -1,0 +1,6 @@
+pub mod Examples
+pub mod Forms
+pub mod Given
+pub mod Lenses
+pub mod Printed
+pub mod Tables

@@ -1,0 +1,11 @@
+pub mod Attributes
+pub mod Examples
+pub mod FormLaws
+pub mod Grammar
+pub mod Items
+pub mod Lines
+pub mod Properties
+pub mod Rows
+pub mod Tables
+pub mod Values
+pub mod Words

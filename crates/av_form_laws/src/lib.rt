@@ -1,0 +1,21 @@
+//! Laws of forms that are made of parts, for the proofs of callers: what is printed is read again. These functions do nothing.
+#![tactic(auto)]
+
+ghost use Rattle.av_form_laws.specs.Examples.{LineExamples};
+ghost use Rattle.av_form_laws.specs.FormLaws.{FormLaw};
+ghost use Rattle.av_form_laws.specs.Tables.{SameTablesLaw};
+
+/// The words that are printed for an operation that fits its form have values, of which reading makes the operation again.
+pub fn forms_are_read_as_printed()
+    ensures { FormLaw }
+{}
+
+/// The forms of the table of operations are the rows of the format's table.
+pub fn forms_have_the_symbols_of_rows()
+    ensures { SameTablesLaw }
+{}
+
+/// Operations that fit forms, and others that don't, for the kinds of items; and each word that a property may have fits.
+pub fn some_operations_fit()
+    ensures { LineExamples }
+{}
