@@ -1,0 +1,61 @@
+-- Affine expressions, maps and sets that are printed and read again as themselves.
+use Rattle.std.specs.Prelude.{ℕ, ℤ, ◌≤◌, List, [], ◌∷◌, map, count_by}
+use Rattle.std.specs.List.{All}
+use Rattle.av_tree.specs.declared.table.Symbol.{Symbol}
+use Rattle.av_tree.specs.declared.table.Symbol.TheVariants as symbol
+use Rattle.av_tree.specs.declared.table.Name.TheVariants as name
+use Rattle.av_tree.specs.declared.table.maps.MapName.TheVariants as maps_name
+use Rattle.av_tree.specs.declared.attribute.Attr.TheVariants as attr
+use Rattle.av_tree.specs.declared.written.ExprText.{ExprText, Name, Const, Neg, Add, Sub, Mul, Mod, Floor, Ceil}
+use Rattle.av_tree.specs.declared.written.MapText.{MapText}
+use Rattle.av_tree.specs.declared.written.RowText.{RowText}
+use Rattle.av_tree.specs.declared.written.SetText.{SetText}
+use Rattle.av_printer.specs.Pieces.{Piece, plain}
+use Rattle.av_printer.specs.Expressions.{expression, map_pieces, set_pieces}
+use Rattle.av_values.specs.declared.value.Value.TheVariants as value
+use Rattle.av_written.specs.Spacing.{words_of}
+use Rattle.av_written.specs.ReadExpressions.{IsShortInteger}
+use Rattle.av_again.specs.Making.{Word, class_of_word, is_calculation}
+use Rattle.av_round_trip.specs.Giving.{Gives}
+
+-- the numbers in an expression have at most 38 digits
+pub data HasShortNumbers : ExprText → Type 0 where
+  name : (text : List ℕ) → HasShortNumbers (Name text)
+  number : (z : ℤ) → IsShortInteger z → HasShortNumbers (Const z)
+  negation : (a : ExprText) → HasShortNumbers a → HasShortNumbers (Neg a)
+  sum : (a b : ExprText) → HasShortNumbers a → HasShortNumbers b → HasShortNumbers (Add a b)
+  difference : (a b : ExprText) → HasShortNumbers a → HasShortNumbers b → HasShortNumbers (Sub a b)
+  product : (a b : ExprText) → HasShortNumbers a → HasShortNumbers b → HasShortNumbers (Mul a b)
+  remainder : (a b : ExprText) → HasShortNumbers a → HasShortNumbers b → HasShortNumbers (Mod a b)
+  floored : (a b : ExprText) → HasShortNumbers a → HasShortNumbers b → HasShortNumbers (Floor a b)
+  ceiled : (a b : ExprText) → HasShortNumbers a → HasShortNumbers b → HasShortNumbers (Ceil a b)
+
+-- how many signs and words of calculation are written in an expression
+abbrev pub signs_in : ExprText → ℕ
+signs_in e = count_by (λ (word : Word). is_calculation (class_of_word word)) (words_of (expression plain e))
+
+-- an expression that can be read where it may have so many signs
+pub record IsExpression (most : ℕ) (e : ExprText) : Type 0 where
+  pub numbers : HasShortNumbers e
+  pub few : signs_in e ≤ most
+
+abbrev pub ExpressionsLaw : Type 0
+ExpressionsLaw = (most : ℕ) (e : ExprText) → IsExpression most e
+    → Gives most (symbol.Rows (name.Map maps_name.Expression) ∷ []) (expression plain e) (value.Expression (record { expr = e; leaves = [] }) ∷ [])
+
+abbrev pub IsMap : ℕ → MapText → Type 0
+IsMap most m = All (IsExpression most) m.results
+
+abbrev pub IsRow : ℕ → RowText → Type 0
+IsRow most r = IsExpression most r.left
+
+abbrev pub IsSet : ℕ → SetText → Type 0
+IsSet most s = All (IsRow most) s.rows
+
+abbrev pub MapsLaw : Type 0
+MapsLaw = (most : ℕ) (m : MapText) → IsMap most m
+    → Gives most (symbol.Rows (name.Map maps_name.AffineMap) ∷ []) (map_pieces m) (value.Attr (attr.Map m) ∷ [])
+
+abbrev pub SetsLaw : Type 0
+SetsLaw = (most : ℕ) (s : SetText) → IsSet most s
+    → Gives most (symbol.Rows (name.Map maps_name.AffineSet) ∷ []) (set_pieces s) (value.Attr (attr.Set s) ∷ [])

@@ -1,0 +1,5 @@
+pub mod Giving
+pub mod Types
+pub mod Expressions
+pub mod Attributes
+pub mod Trees
