@@ -1,6 +1,8 @@
 -- Symbols give the words of pieces, and the values that the rows make of them: a calculus that follows the pieces.
 use Rattle.std.proofs.Common.{◌≡◌, ℕ, List, [], ◌∷◌, ◌++◌, map, append-nil, append_assoc, refl, sym, ap, ◌∙◌}
+use Rattle.std.specs.List.{All}
 use Rattle.std.proofs.lemmas.List.{reverse-append}
+use Rattle.std.proofs.lemmas.List.Elements.{All-head, All-tail}
 use Rattle.std.specs.Prelude.{reverse, IsTrue, Some}
 use Rattle.av_lex.specs.declared.token.Kind.{Kind}
 use Rattle.av_lex.specs.declared.token.Kind.TheVariants as kinds
@@ -22,7 +24,7 @@ use Rattle.av_values.specs.declared.value.Value.{Value}
 use Rattle.av_values.specs.declared.value.Value.TheVariants as value
 use Rattle.av_written.specs.Spacing.{words_of}
 use Rattle.av_again.specs.Making.{class_of_word, FewSigns, Makes, nothing, by_sign, by_word, by_token}
-use Rattle.av_round_trip.proofs.Following.{followed, row, respelled}
+use Rattle.av_round_trip.proofs.Following.{followed, row, respelled, revalued}
 use Rattle.av_round_trip.specs.Giving.{Gives}
 
 pub words-append : (ps qs : List Piece) → words_of (ps ++ qs) ≡ words_of ps ++ words_of qs
@@ -68,6 +70,9 @@ join {most} {ss} {others} {ps} {qs} {vs} {under} a b = record { makes = respelle
 pub given_as : {most : ℕ} {ss : List Symbol} {ps qs : List Piece} {vs : List Value} → ps ≡ qs → Gives most ss qs vs → Gives most ss ps vs
 given_as is a = record { makes = respelled (sym (ap words_of is)) a.makes }
 
+pub given_revalued : {most : ℕ} {ss : List Symbol} {ps : List Piece} {v w : Value} → v ≡ w → Gives most ss ps (v ∷ []) → Gives most ss ps (w ∷ [])
+given_revalued is a = record { makes = revalued (ap (λ u. u ∷ []) is) a.makes }
+
 pub ended : {most : ℕ} {ss : List Symbol} {ps : List Piece} {vs : List Value} → Gives most ss (ps ++ []) vs → Gives most ss ps vs
 ended {most} {ss} {ps} a = given_as (sym (append-nil ps)) a
 
@@ -92,14 +97,8 @@ module _ {most : ℕ} where
   given_round inner = join (join (given_sign signs.OpenRound) inner) (given_sign signs.CloseRound)
 
 -- ---- lists from the last item to the first
-unfoldable pub backwards : {A : Type 0} → List A → List A
-backwards [] = []
-backwards (x ∷ xs) = backwards xs ++ x ∷ []
-
-pub reverse-backwards : {A : Type 0} (xs : List A) → reverse (backwards xs) ≡ xs
-unfolding backwards
-reverse-backwards [] = refl
-reverse-backwards (x ∷ xs) = reverse-append (backwards xs) (x ∷ []) ∙ ap (λ l. x ∷ l) (reverse-backwards xs)
+reverse-first : {A : Type 0} (x : A) (xs : List A) → reverse xs ++ x ∷ [] ≡ reverse (x ∷ xs)
+reverse-first x xs = sym (reverse-append (x ∷ []) xs)
 
 -- each item gives its values
 abbrev pub Every : {A : Type 0} → ℕ → List Symbol → (A → List Piece) → (A → List Value) → List A → Type 0
@@ -117,13 +116,26 @@ pub record ListRows {A : Type 0} (most : ℕ) (items : List Symbol) (front more 
 
 module _ {A : Type 0} {most : ℕ} {items : List Symbol} {front more : Name} {values : A → List Value} {list : List A → Value}
     (rows : ListRows most items front more values list) (pieces : A → List Piece) where
-  pub given_behind : (xs : List A) → Every most items pieces values xs → Gives most (symbol.Rows more ∷ []) (behind (map pieces xs)) (list (backwards xs) ∷ [])
-  unfolding behind backwards
+  pub given_behind : (xs : List A) → Every most items pieces values xs → Gives most (symbol.Rows more ∷ []) (behind (map pieces xs)) (list (reverse xs) ∷ [])
+  unfolding behind
   given_behind [] h = rows.no_more
   given_behind (x ∷ xs) h =
-      rows.next x (backwards xs) (given_as (append_assoc comma (pieces x) (behind (map pieces xs))) (join given_comma (join h.0 (given_behind xs h.1))))
+      given_revalued (ap list (reverse-first x xs))
+      (rows.next x (reverse xs) (given_as (append_assoc comma (pieces x) (behind (map pieces xs))) (join given_comma (join h.0 (given_behind xs h.1)))))
 
-  pub given_commas : (xs : List A) → Every most items pieces values xs → Gives most (symbol.Rows front ∷ []) (commas (map pieces xs)) (list (backwards xs) ∷ [])
-  unfolding commas backwards
+  pub given_commas : (xs : List A) → Every most items pieces values xs → Gives most (symbol.Rows front ∷ []) (commas (map pieces xs)) (list (reverse xs) ∷ [])
+  unfolding commas
   given_commas [] h = rows.no_front
-  given_commas (x ∷ xs) h = rows.first x (backwards xs) (join h.0 (given_behind xs h.1))
+  given_commas (x ∷ xs) h = given_revalued (ap list (reverse-first x xs)) (rows.first x (reverse xs) (join h.0 (given_behind xs h.1)))
+
+  -- the same where what each item is gives its values
+  module _ {P : A → Type 0} (gives : (x : A) → P x → Gives most items (pieces x) (values x)) where
+    every : (xs : List A) → All P xs → Every most items pieces values xs
+    every [] all = tt
+    every (x ∷ xs) all = (gives x (All-head P x xs all), every xs (All-tail P x xs all))
+
+    pub given_all_behind : (xs : List A) → All P xs → Gives most (symbol.Rows more ∷ []) (behind (map pieces xs)) (list (reverse xs) ∷ [])
+    given_all_behind xs all = given_behind xs (every xs all)
+
+    pub given_all : (xs : List A) → All P xs → Gives most (symbol.Rows front ∷ []) (commas (map pieces xs)) (list (reverse xs) ∷ [])
+    given_all xs all = given_commas xs (every xs all)
