@@ -1,3 +1,4 @@
 pub mod Following
 pub mod Decimals
 pub mod Giving
+pub mod Types
