@@ -1,5 +1,5 @@
 -- Symbols give the words of pieces, and the values that the rows make of them: a calculus that follows the pieces.
-use Rattle.std.proofs.Common.{◌≡◌, ℕ, List, [], ◌∷◌, ◌++◌, map, append-nil, append_assoc, refl, sym, ap, ◌∙◌}
+use Rattle.std.proofs.Common.{◌≡◌, ℕ, List, [], ◌∷◌, ◌++◌, map, append-nil, append_assoc, refl, sym, ap}
 use Rattle.std.specs.List.{All}
 use Rattle.std.proofs.lemmas.List.{reverse-append}
 use Rattle.std.proofs.lemmas.List.Elements.{All-head, All-tail}
@@ -23,7 +23,7 @@ use Rattle.av_reader.specs.Building as building
 use Rattle.av_values.specs.declared.value.Value.{Value}
 use Rattle.av_values.specs.declared.value.Value.TheVariants as value
 use Rattle.av_written.specs.Spacing.{words_of}
-use Rattle.av_again.specs.Making.{class_of_word, FewSigns, Makes, nothing, by_sign, by_word, by_token}
+use Rattle.av_again.specs.Making.{class_of_word, FewSigns, nothing, by_sign, by_word, by_token}
 use Rattle.av_round_trip.proofs.Following.{followed, row, respelled, revalued}
 use Rattle.av_round_trip.specs.Giving.{Gives}
 
@@ -105,7 +105,7 @@ module _ {most : ℕ} where
   given_curly inner = join (join (given_sign signs.OpenCurly) inner) (given_sign signs.CloseCurly)
 
 -- ---- lists from the last item to the first
-reverse-first : {A : Type 0} (x : A) (xs : List A) → reverse xs ++ x ∷ [] ≡ reverse (x ∷ xs)
+pub reverse-first : {A : Type 0} (x : A) (xs : List A) → reverse xs ++ x ∷ [] ≡ reverse (x ∷ xs)
 reverse-first x xs = sym (reverse-append (x ∷ []) xs)
 
 -- each item gives its values

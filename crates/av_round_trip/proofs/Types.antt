@@ -1,8 +1,8 @@
 -- Values, numbers and types are printed and read again as themselves.
-use Rattle.std.proofs.Common.{◌≡◌, ℕ, suc, ◌+◌, ◌^◌, ◌<◌, Bool, true, false, List, [], ◌∷◌, ◌++◌, map, refl, sym, ap, ◌∙◌, arith}
-use Rattle.std.specs.Prelude.{ℤ, pos, negsuc, IsTrue, Option, Some, None, reverse, codes, decimal, if◌then◌else◌, ◌==◌}
+use Rattle.std.proofs.Common.{◌≡◌, ℕ, suc, Bool, true, false, List, [], ◌∷◌, ◌++◌, map, refl, sym, ap, ◌∙◌, arith}
+use Rattle.std.specs.Prelude.{pos, negsuc, IsTrue, Option, Some, None, reverse, codes, decimal, if◌then◌else◌, ◌==◌}
 use Rattle.std.specs.List.{All, list_all}
-use Rattle.std.proofs.lemmas.List.{reverse-append, reverse-reverse}
+use Rattle.std.proofs.lemmas.List.{reverse-reverse}
 use Rattle.std.proofs.lemmas.List.Elements.{All-head, All-tail}
 use Rattle.av_lex.specs.declared.token.Kind.TheVariants as kinds
 use Rattle.av_lex.specs.declared.token.Sign.TheVariants as signs
@@ -22,10 +22,10 @@ use Rattle.av_tree.specs.declared.written.SizeText.TheVariants as sizes
 use Rattle.av_tree.specs.declared.written.DimText.{DimText}
 use Rattle.av_tree.specs.declared.written.DimText.TheVariants as dims
 use Rattle.av_tree.specs.declared.written.LayoutText.{LayoutText}
-use Rattle.av_tree.specs.declared.written.TypeText.{TypeText, Scalar, MemRef, Vector}
+use Rattle.av_tree.specs.declared.written.TypeText.{TypeText, MemRef, Vector}
 use Rattle.av_tree.specs.Classes.{fits_of}
 use Rattle.av_derive.specs.ClassOf.{keywords}
-use Rattle.av_printer.specs.Pieces.{Piece, token, sign, plain, joined, commas, in_round}
+use Rattle.av_printer.specs.Pieces.{Piece, token, joined, commas, in_round}
 use Rattle.av_printer.specs.Types.{size_alone, size_x, dim_x, strides_of, offset_of, layout_behind, one_or_several, type_pieces}
 use Rattle.av_printer.specs.Expressions.{before, from, which, how_many, value as value_pieces, number, result_name}
 use Rattle.av_printer.specs.Operations.{results_before}
@@ -33,7 +33,6 @@ use Rattle.av_values.specs.Sorts.{on_top, replaced}
 use Rattle.av_values.specs.declared.value.Value.{Value}
 use Rattle.av_values.specs.declared.value.Value.TheVariants as value
 use Rattle.av_written.specs.ReadTypes.{IsShortSize, IsShortDim, IsShortLayout}
-use Rattle.av_written.specs.ReadExpressions.{IsShortInteger}
 use Rattle.av_written.proofs.TypeParts.{type-scalar, type-memref, type-vector}
 use Rattle.av_written.specs.Spacing.{words_of}
 use Rattle.av_again.specs.Making.{class_of_word, nothing, by_sign}
@@ -41,7 +40,7 @@ use Rattle.av_round_trip.specs.Giving.{Gives}
 use Rattle.av_round_trip.specs.Types.{IsResultNumber, IsNameOfValue, IsScalar, IsType, a_value, a_type, ValuesLaw, ManyValuesLaw, IntegersLaw, TypesLaw, ManyTypesLaw, ResultTypesLaw, scalar, mem_ref, vector}
 use Rattle.av_round_trip.specs.Trees.{IsResultCount, IsNameOfResults}
 use Rattle.av_round_trip.proofs.Decimals.{integer-positive, integer-negative, size-decimal, dim-decimal, scale-decimal, spelled-decimal}
-use Rattle.av_round_trip.proofs.Giving.{none, join, given_as, given_revalued, ended, given_row, given_sign, given_word, given_token, given_comma, given_colon, given_spaced, given_round, given_square, every-all, reverse-first, ListRows, MoreRows, given_all, given_more}
+use Rattle.av_round_trip.proofs.Giving.{none, join, given_as, given_row, given_sign, given_word, given_token, given_comma, given_colon, given_spaced, given_round, given_square, every-all, reverse-first, ListRows, MoreRows, given_all, given_more}
 
 -- ---- numbers
 -- any digits are read as a number
