@@ -2,3 +2,10 @@ pub mod Following
 pub mod Decimals
 pub mod Giving
 pub mod Types
+pub mod Quotes
+pub mod ReadNodes
+pub mod Parts
+pub mod Regions
+pub mod Nodes
+pub mod Trees
+pub mod Texts
