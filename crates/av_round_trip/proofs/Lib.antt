@@ -2,3 +2,8 @@ pub mod Following
 pub mod Decimals
 pub mod Giving
 pub mod Types
+pub mod Binding
+pub mod Expressions
+pub mod Maps
+pub mod Pairs
+pub mod Fewest
