@@ -1,6 +1,7 @@
 pub mod Following
 pub mod Decimals
 pub mod Giving
+pub mod Types
 pub mod Quotes
 pub mod ReadNodes
 pub mod Parts
