@@ -26,15 +26,15 @@ use Rattle.av_round_trip.specs.Trees.{IsWholeLine, IsWhole, AreWholeBodies, AreW
 use Rattle.av_round_trip.proofs.Giving.{none, join, given_as, given_row, given_line, given_revalued}
 use Rattle.av_round_trip.proofs.Quotes.{in_quotes}
 use Rattle.av_round_trip.proofs.ReadNodes.{out-as_read}
-use Rattle.av_round_trip.proofs.Parts.{PartsLaws, HaveTexts, have_texts, given_named, made-is}
+use Rattle.av_round_trip.proofs.Parts.{DictionaryLaws, HaveTexts, have_texts, given_named, made-is}
 use Rattle.av_round_trip.proofs.Regions.{Operations, EachBody, given_regions, given_body}
-use Rattle.av_round_trip.proofs.Nodes.{nameless, form_pieces, whole-is, nameless-is, no_operation, given_operation}
+use Rattle.av_round_trip.proofs.Nodes.{form_pieces, whole-is, nameless-is, no_operation, given_operation}
 
 whole_line : {most : ℕ} (n : Node) → IsWhole most n → IsWholeLine most (out-Node n)
 whole_line _ (node n line inside) = line
 
 -- ---- operations and regions
-module _ (laws : PartsLaws) {most : ℕ} where
+module _ (laws : DictionaryLaws) {most : ℕ} where
   mutual
     unfolding joined
 
@@ -44,7 +44,7 @@ module _ (laws : PartsLaws) {most : ℕ} where
     given_bodies : (bodies : List Body) → AreWholeBodies most bodies → (depth : ℕ) → EachBody most depth bodies
     given_bodies _ no_bodies depth = tt
     given_bodies _ (one_body_more b rest args nodes others) depth =
-        (given_body laws depth b args (given_nodes (out-Body b).nodes nodes (depth + 1)), given_bodies rest others depth)
+        (given_body depth b args (given_nodes (out-Body b).nodes nodes (depth + 1)), given_bodies rest others depth)
 
     given_nodes : (nodes : List Node) → AreWholeNodes most nodes → (depth : ℕ)
         → Gives most (Operations ∷ []) (joined (map (node_line forms.Generic depth) nodes)) (value.Nodes (reverse (map as_read nodes)) ∷ [])
@@ -96,5 +96,5 @@ module _ (laws : PartsLaws) {most : ℕ} where
         (given_row (rule.File file_rule.PlainContent) refl tt top_level refl))
         (ap (λ (n : Node). Some (value.Tree (record { aliases = []; root = n }) ∷ [])) root-is))
 
-pub generic_trees : PartsLaws → GenericTreesLaw
+pub generic_trees : DictionaryLaws → GenericTreesLaw
 generic_trees laws most root whole is_module no_results = (given_tree laws root whole is_module no_results).makes
