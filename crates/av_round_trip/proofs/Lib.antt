@@ -9,3 +9,4 @@ pub mod Regions
 pub mod Nodes
 pub mod Trees
 pub mod Texts
+pub mod Example
