@@ -7,6 +7,7 @@ use Rattle.av_tree.specs.declared.table.Symbol.{Symbol}
 use Rattle.av_tree.specs.declared.table.Symbol.TheVariants as symbol
 use Rattle.av_tree.specs.declared.table.Name.TheVariants as name
 use Rattle.av_tree.specs.declared.table.attributes.AttributeName.TheVariants as attributes_name
+use Rattle.av_tree.specs.declared.table.generic.GenericName.TheVariants as generic_name
 use Rattle.av_tree.specs.declared.written.TypeText.{TypeText, Func}
 use Rattle.av_tree.specs.declared.written.MapText.{MapText}
 use Rattle.av_tree.specs.declared.written.SetText.{SetText}
@@ -17,6 +18,7 @@ use Rattle.av_tree.specs.declared.attribute.Attr as attrs
 use Rattle.av_tree.specs.declared.attribute.Named.{Named, out-Named}
 use Rattle.av_printer.specs.Attributes.{attribute, entry_pieces}
 use Rattle.av_printer.specs.Dictionaries.{dictionary, in_order}
+use Rattle.av_printer.specs.Operations.{marks_behind, properties_behind}
 use Rattle.av_values.specs.declared.value.Value.TheVariants as value
 use Rattle.av_written.specs.ReadExpressions.{IsShortInteger}
 use Rattle.av_again.specs.Making.{class_of_word}
@@ -47,7 +49,7 @@ mutual
     number : (z : ℤ) (ty : TypeText) → IsShortInteger z → IsType ty → IsAttribute most (attrs.Number z ty)
     truth : (b : Bool) → IsAttribute most (attrs.Bool b)
     quoted : (text : List ℕ) → IsAttribute most (attrs.Quoted text)
-    symbol : (text : List ℕ) → IsAttribute most (attrs.Symbol text)
+    symbol_name : (text : List ℕ) → IsAttribute most (attrs.Symbol text)
     typed : (ty : TypeText) → IsType ty → IsAttribute most (attrs.Type ty)
     mapped : (m : MapText) → IsMap most m → IsAttribute most (attrs.Map m)
     bounded : (s : SetText) → IsSet most s → IsAttribute most (attrs.Set s)
@@ -55,7 +57,7 @@ mutual
     hashed : (text : List ℕ) (words : List (List ℕ)) → class_of_word (kinds.HashId, text) ≡ class.HashWord → IsAttribute most (attrs.Hash text words)
     list : (items : List Attr) → AreAttributes most items → IsAttribute most (attrs.List items)
     -- the entries of an inner dictionary are written as they stand
-    dictionary : (entries : List Named) → AreEntries most entries → IsAttribute most (attrs.Dictionary entries)
+    inner_dictionary : (entries : List Named) → AreEntries most entries → IsAttribute most (attrs.Dictionary entries)
     array : (elem : TypeText) (numbers : List ℤ) → IsType elem → All IsShortInteger numbers → IsAttribute most (attrs.Array elem numbers)
     dense : (e : Element) (ty : TypeText) → IsElement e → IsType ty → IsAttribute most (attrs.Dense e ty)
 
@@ -83,3 +85,13 @@ AttributesLaw = (most : ℕ) (a : Attr) → IsAttribute most a
 abbrev pub DictionariesLaw : Type 0
 DictionariesLaw = (most : ℕ) (entries : List Named) → AreEntries most entries
     → Gives most (symbol.Rows (name.Attribute attributes_name.Entries) ∷ []) (dictionary entries) (value.Entries (reverse (in_order entries)) ∷ [])
+
+-- the same in curly brackets, and nothing where there is no entry
+abbrev pub MarksLaw : Type 0
+MarksLaw = (most : ℕ) (entries : List Named) → AreEntries most entries
+    → Gives most (symbol.Rows (name.Attribute attributes_name.OptionalDictionary) ∷ []) (marks_behind entries) (value.Entries (reverse (in_order entries)) ∷ [])
+
+-- the same in `<{` and `}>`
+abbrev pub PropertiesLaw : Type 0
+PropertiesLaw = (most : ℕ) (entries : List Named) → AreEntries most entries
+    → Gives most (symbol.Rows (name.Generic generic_name.Properties) ∷ []) (properties_behind entries) (value.Entries (reverse (in_order entries)) ∷ [])
