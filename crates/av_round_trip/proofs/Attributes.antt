@@ -1,10 +1,9 @@
 -- Attributes, and entries of dictionaries, that are printed and read again as themselves.
-use Rattle.std.proofs.Common.{◌≡◌, ℕ, ℤ, Bool, List, [], ◌∷◌, ◌++◌, map, length, ◌-◌, append_assoc, refl, sym, ap, ◌∙◌, subst, arith, Option}
-use Rattle.std.proofs.lemmas.List.{reverse-reverse, reverse-append, take_at, length-append}
+use Rattle.std.proofs.Common.{◌≡◌, ℕ, ℤ, Bool, List, [], ◌∷◌, ◌++◌, map, append_assoc, refl, sym, ap, ◌∙◌, subst, Option}
+use Rattle.std.proofs.lemmas.List.{reverse-reverse}
 use Rattle.std.proofs.lemmas.List.Elements.{All-head, All-tail}
-use Rattle.std.specs.Prelude.{IsTrue, Some, None, reverse, codes}
+use Rattle.std.specs.Prelude.{IsTrue, Some, reverse, codes}
 use Rattle.std.specs.List.{All}
-use Rattle.std.specs.Str.{bytes_eq}
 use Rattle.av_lex.specs.declared.token.Kind.TheVariants as kinds
 use Rattle.av_lex.specs.declared.token.Sign.TheVariants as signs
 use Rattle.av_tree.specs.declared.attribute.Element.{Element}
@@ -38,10 +37,8 @@ use Rattle.av_printer.specs.Expressions.{number, map_pieces, set_pieces}
 use Rattle.av_printer.specs.Attributes.{truth, typed, numbers_behind, quoted, hashed, array_of, dense_of, or_nothing, assigned, attr_of, attribute, entry_pieces}
 use Rattle.av_values.specs.Nodes.{entry}
 use Rattle.av_values.specs.Sorts.{on_top, replaced}
-use Rattle.av_values.specs.Spellings.{unquoted}
 use Rattle.av_values.specs.declared.value.Value.TheVariants as value
 use Rattle.av_written.specs.ReadExpressions.{IsShortInteger}
-use Rattle.av_written.proofs.ExprParts.{either}
 use Rattle.av_written.proofs.TypeParts.{type-func}
 use Rattle.av_written.proofs.AttrEquations.{attr-number, attr-bool, attr-quoted, attr-symbol, attr-aliasuse, attr-type, attr-map, attr-set, attr-hash, attr-list, attr-dictionary, attr-array, attr-dense, attr-unit, entry-opened}
 use Rattle.av_again.specs.Making.{class_of_word}
@@ -50,24 +47,14 @@ use Rattle.av_round_trip.specs.Types.{IsType, a_type, TypesLaw, ManyTypesLaw, Re
 use Rattle.av_round_trip.specs.Expressions.{IsMap, IsSet, MapsLaw, SetsLaw}
 use Rattle.av_round_trip.specs.Attributes as part
 use Rattle.av_round_trip.specs.Attributes.{IsElement, IsAliasName, IsAttribute, AreAttributes, IsEntryValue, AreEntries, AttributesLaw, no_attributes, one_attribute_more, no_entries, one_entry_more}
-use Rattle.av_round_trip.proofs.Giving.{none, join, given_as, given_row, given_sign, given_spaced, given_word, given_token, given_colon, given_round, Every, ListRows, given_commas, given_all, given_all_behind}
+use Rattle.av_round_trip.proofs.Giving.{none, join, given_as, given_row, given_sign, given_spaced, given_word, given_token, given_colon, given_round, given_square, given_curly, reverse-first, Every, every-all, ListRows, given_behind, given_commas}
+use Rattle.av_round_trip.proofs.Quotes.{in_quotes, unquoted-is, quoted_fits}
 use Rattle.av_round_trip.proofs.WordTests.{fits_word, by_name, class-function_type, class-array, class-dense}
-use Rattle.av_round_trip.proofs.Elements.{truth_word, is_true-word, given_truth, given_element}
+use Rattle.av_round_trip.proofs.Elements.{is_true-word, given_truth, given_element}
 
 -- ---- words and texts
 pub regrouped : (a b c d : List Piece) → a ++ b ++ c ++ d ≡ a ++ (b ++ c ++ d)
 regrouped a b c d = ap (λ (ps : List Piece). ps ++ d) (append_assoc a b c) ∙ append_assoc a (b ++ c) d
-
-abbrev in_quotes : List ℕ → List ℕ
-in_quotes bytes = codes "\"" ++ bytes ++ codes "\""
-
-unquoted-is : (bytes : List ℕ) → unquoted (in_quotes bytes) ≡ bytes
-unquoted-is bytes = take_at bytes (codes "\"") (length (bytes ++ codes "\"") - 1) (omega (arith, length-append bytes (codes "\"")))
-
-fits_quoted : (bytes : List ℕ) → IsTrue (fits_of test.String (class_of_word (kinds.Quoted, bytes)))
-fits_quoted bytes =
-    either (λ (c : Class). IsTrue (fits_of test.String c)) (bytes_eq bytes (34 ∷ codes "builtin.module" ++ 34 ∷ [])) class.QuotedModule _ (λ b. refl)
-    (λ b. either (λ (c : Class). IsTrue (fits_of test.String c)) (bytes_eq bytes (34 ∷ codes "func.func" ++ 34 ∷ [])) class.QuotedFunc class.Quoted (λ b. refl) (λ b. refl))
 
 -- a test takes any word of a class that it takes
 of_class : (t : Test) (c d : Class) → c ≡ d → IsTrue (fits_of t d) → IsTrue (fits_of t c)
@@ -97,7 +84,7 @@ module _ {most : ℕ} where
   given_quoted : (bytes : List ℕ) → Gives most an_attribute (quoted bytes) (value.Attr (attr.Quoted bytes) ∷ [])
   unfolding quoted replaced on_top
   given_quoted bytes =
-      given_row (rule.Attribute attributes_rule.StringAttribute) refl tt (given_token test.String kinds.Quoted (in_quotes bytes) (fits_quoted (in_quotes bytes)))
+      given_row (rule.Attribute attributes_rule.StringAttribute) refl tt (given_token test.String kinds.Quoted (in_quotes bytes) (quoted_fits (in_quotes bytes)))
       (ap (λ (t : List ℕ). Some (value.Attr (attr.Quoted t) ∷ [])) (unquoted-is bytes))
 
   given_symbol : (bytes : List ℕ) → Gives most an_attribute (token kinds.SymId bytes) (value.Attr (attr.Symbol bytes) ∷ [])
@@ -183,21 +170,21 @@ module _ {most : ℕ} where
   unfolding replaced on_top
   given_list items each =
       given_row (rule.Attribute attributes_rule.ListAttribute) refl tt
-      (join (join (given_sign signs.OpenSquare) (given_commas attribute_rows attribute items each)) (given_sign signs.CloseSquare))
+      (given_square (given_commas attribute_rows attribute items each))
       (ap (λ (l : List Attr). Some (value.Attr (attr.List l) ∷ [])) (reverse-reverse items))
 
-  pub given_curly : (entries : List Named) → EachEntry most entries
+  pub given_braces : (entries : List Named) → EachEntry most entries
       → Gives most (rows_of attributes_name.Dictionary) (in_curly (commas (map entry_pieces entries))) (value.Entries (reverse entries) ∷ [])
   unfolding replaced on_top
-  given_curly entries each =
+  given_braces entries each =
       given_row (rule.Attribute attributes_rule.WrittenDictionary) refl tt
-      (join (join (given_sign signs.OpenCurly) (given_commas entry_rows entry_pieces entries each)) (given_sign signs.CloseCurly)) refl
+      (given_curly (given_commas entry_rows entry_pieces entries each)) refl
 
   given_dictionary : (entries : List Named) → EachEntry most entries
       → Gives most an_attribute (in_curly (commas (map entry_pieces entries))) (value.Attr (attr.Dictionary entries) ∷ [])
   unfolding replaced on_top
   given_dictionary entries each =
-      given_row (rule.Attribute attributes_rule.DictionaryAttribute) refl tt (given_curly entries each)
+      given_row (rule.Attribute attributes_rule.DictionaryAttribute) refl tt (given_braces entries each)
       (ap (λ (es : List Named). Some (value.Attr (attr.Dictionary es) ∷ [])) (reverse-reverse entries))
 
   -- ---- entries
@@ -282,8 +269,9 @@ module _ (types : TypesLaw) (many : ManyTypesLaw) (results : ResultTypesLaw) (in
   given_numbers (n ∷ ns) h =
       given_row (rule.Attribute attributes_rule.WrittenArrayNumbers) refl tt
       (join given_colon
-      (join (integers most n (All-head IsShortInteger n ns h)) (given_all_behind integer_rows number (integers most) ns (All-tail IsShortInteger n ns h))))
-      (ap (λ (l : List ℤ). Some (value.Numbers l ∷ [])) (sym (reverse-append (n ∷ []) ns)))
+      (join (integers most n (All-head IsShortInteger n ns h))
+      (given_behind integer_rows number ns (every-all (integers most) ns (All-tail IsShortInteger n ns h)))))
+      (ap (λ (l : List ℤ). Some (value.Numbers l ∷ [])) (reverse-first n ns))
 
   given_array : (elem : TypeText) (numbers : List ℤ) → IsType elem → All IsShortInteger numbers
       → Gives most an_attribute (array_of elem numbers) (value.Attr (attr.Array elem numbers) ∷ [])

@@ -1,12 +1,13 @@
 -- The numbers that decimal digits are read as.
-use Rattle.std.proofs.Common.{◌≡◌, ℕ, suc, ◌+◌, ◌-◌, ◌*◌, ◌^◌, ◌<◌, ◌≤◌, min, List, [], ◌∷◌, ◌++◌, length, take, refl, sym, ap, ◌∙◌, arith}
+use Rattle.std.proofs.Common.{◌≡◌, ℕ, suc, ◌+◌, ◌-◌, ◌*◌, ◌^◌, ◌<◌, ◌≤◌, min, List, [], ◌∷◌, ◌++◌, length, refl, ap, ◌∙◌, arith}
 use Rattle.std.specs.Prelude.{◌/◌, ◌%◌, pos, negsuc, false, true, decimal, codes, if◌then◌else◌, ◌==◌, Bool, neg_ℤ}
 use Rattle.std.proofs.lemmas.Fmt.{decimal_by_steps_wide}
 use Rattle.std.proofs.lemmas.List.{take_at, length-append}
 use Rattle.std.proofs.lemmas.Bool.Decides.{nat_tests}
+use Rattle.av_tree.specs.declared.written.DimText.TheVariants as dim
 use Rattle.av_tree.specs.declared.written.SizeText.TheVariants as size
 use Rattle.av_values.specs.Numbers.{number_after, number_of, spelled_number, spelled_integer}
-use Rattle.av_values.specs.Spellings.{size_of}
+use Rattle.av_values.specs.Spellings.{is_dynamic, before_x, size_of, dim_of, scalable_of}
 
 number-append : (before : ℕ) (digits : List ℕ) (digit : ℕ) → number_after before (digits ++ digit ∷ []) ≡ number_after before digits * 10 + (digit - 48)
 unfolding number_after
@@ -63,16 +64,32 @@ begins_more n ds many b = record {
   other = b.other;
 }
 
-sized : (first : ℕ) (bytes : List ℕ) → (first == 63) ≡ false
-    → size_of ((first ∷ bytes) ++ codes "x") ≡ size.Fixed (spelled_number (first ∷ bytes))
-sized first bytes other =
-    let short : ℕ = length ((first ∷ bytes) ++ codes "x") - 1 in
-    let long : length (first ∷ bytes) ≡ short = omega (arith, length-append bytes (codes "x")) in
-    ap (λ (b : Bool). if b then size.Dynamic else size.Fixed (spelled_number (take short ((first ∷ bytes) ++ codes "x")))) other
-    ∙ ap (λ ds. size.Fixed (spelled_number ds)) (take_at (first ∷ bytes) (codes "x") short long)
+-- what stands before the `x`
+before-x : (digits : List ℕ) → before_x (digits ++ codes "x") ≡ digits
+before-x digits =
+    let short : ℕ = length (digits ++ codes "x") - 1 in
+    take_at digits (codes "x") short (omega (arith, length-append digits (codes "x")))
+
+begins-decimal : (n : ℕ) → n < 2 ^ 127 → Begins (decimal n)
+begins-decimal n h = decimal_by_steps_wide (λ m ds. Begins ds) begins_one begins_more n (omega arith)
+
+-- a decimal number with an `x` behind it isn't `?x`
+static : {A : Type 0} (n : ℕ) → n < 2 ^ 127 → (dynamic : A) (fixed : ℕ → A)
+    → (if is_dynamic (decimal n ++ codes "x") then dynamic else fixed (spelled_number (before_x (decimal n ++ codes "x")))) ≡ fixed n
+static {A} n h dynamic fixed =
+    let b : Begins (decimal n) = begins-decimal n h in
+    let one : A = fixed (spelled_number (before_x (decimal n ++ codes "x"))) in
+    ap (λ ds. if is_dynamic (ds ++ codes "x") then dynamic else one) b.is ∙ ap (λ (c : Bool). if c then dynamic else one) b.other
+    ∙ ap (λ ds. fixed (spelled_number ds)) (before-x (decimal n)) ∙ ap fixed (spelled-decimal n h)
 
 pub size-decimal : (n : ℕ) → n < 2 ^ 127 → size_of (decimal n ++ codes "x") ≡ size.Fixed n
-size-decimal n h =
-    let b : Begins (decimal n) = decimal_by_steps_wide (λ m ds. Begins ds) begins_one begins_more n (omega arith) in
-    ap (λ ds. size_of (ds ++ codes "x")) b.is ∙ sized b.first b.bytes b.other ∙ ap (λ ds. size.Fixed (spelled_number ds)) (sym b.is)
-    ∙ ap size.Fixed (spelled-decimal n h)
+size-decimal n h = static n h size.Dynamic size.Fixed
+
+pub dim-decimal : (n : ℕ) → n < 2 ^ 127 → dim_of (decimal n ++ codes "x") ≡ dim.Fixed n
+dim-decimal n h = static n h dim.Dynamic dim.Fixed
+
+pub scale-decimal : (n : ℕ) → n < 2 ^ 127 → scalable_of (codes "[" ++ decimal n ++ codes "]x") ≡ dim.Scalable n
+scale-decimal n h =
+    let short : ℕ = length (decimal n ++ codes "]x") - 2 in
+    let long : length (decimal n) ≡ short = omega (arith, length-append (decimal n) (codes "]x")) in
+    ap (λ ds. dim.Scalable (spelled_number ds)) (take_at (decimal n) (codes "]x") short long) ∙ ap dim.Scalable (spelled-decimal n h)

@@ -1,6 +1,6 @@
 -- Dictionaries, marks and properties that are printed and read again as themselves.
-use Rattle.std.proofs.Common.{◌≡◌, ℕ, Bool, true, false, cond, List, [], ◌∷◌, ◌++◌, refl, ap}
-use Rattle.std.specs.Prelude.{Some, reverse}
+use Rattle.std.proofs.Common.{ℕ, Bool, true, false, cond, List, [], ◌∷◌, ◌++◌, refl, ap}
+use Rattle.std.specs.Prelude.{reverse}
 use Rattle.av_lex.specs.declared.token.Sign.TheVariants as signs
 use Rattle.av_tree.specs.declared.attribute.Named.{Named, out-Named}
 use Rattle.av_tree.specs.declared.table.Symbol.TheVariants as symbol
@@ -8,7 +8,6 @@ use Rattle.av_tree.specs.declared.table.Name.TheVariants as name
 use Rattle.av_tree.specs.declared.table.Rule.TheVariants as rule
 use Rattle.av_tree.specs.declared.table.attributes.AttributeName.TheVariants as attributes_name
 use Rattle.av_tree.specs.declared.table.attributes.AttributeRule.TheVariants as attributes_rule
-use Rattle.av_tree.specs.declared.table.generic.GenericName.TheVariants as generic_name
 use Rattle.av_tree.specs.declared.table.generic.GenericRule.TheVariants as generic_rule
 use Rattle.av_printer.specs.Pieces.{Piece, space, sign}
 use Rattle.av_printer.specs.Attributes.{entry_pieces}
@@ -19,9 +18,10 @@ use Rattle.av_values.specs.declared.value.Value.TheVariants as value
 use Rattle.av_round_trip.specs.Giving.{Gives}
 use Rattle.av_round_trip.specs.Types.{TypesLaw, ManyTypesLaw, ResultTypesLaw, IntegersLaw}
 use Rattle.av_round_trip.specs.Expressions.{MapsLaw, SetsLaw}
-use Rattle.av_round_trip.specs.Attributes.{IsEntryValue, AreEntries, DictionariesLaw, MarksLaw, PropertiesLaw, no_entries, one_entry_more}
+use Rattle.av_round_trip.specs.Attributes.{IsEntryValue, AreEntries, DictionariesLaw, no_entries, one_entry_more}
+use Rattle.av_round_trip.specs.Trees.{MarksLaw, PropertiesLaw}
 use Rattle.av_round_trip.proofs.Giving.{none, join, given_as, given_row, given_space, given_sign, given_commas}
-use Rattle.av_round_trip.proofs.Attributes.{regrouped, entry_rows, given_curly, given_entries}
+use Rattle.av_round_trip.proofs.Attributes.{regrouped, entry_rows, given_braces, given_entries}
 
 -- ---- entries in order of name
 module _ {most : ℕ} where
@@ -56,7 +56,7 @@ module _ (types : TypesLaw) (many : ManyTypesLaw) (results : ResultTypesLaw) (in
       → Gives most (symbol.Rows (name.Attribute attributes_name.Dictionary) ∷ []) (sign signs.OpenCurly ++ dictionary entries ++ sign signs.CloseCurly)
       (value.Entries (reverse (in_order entries)) ∷ [])
   given_ordered most entries h =
-      given_curly (in_order entries) (given_entries types many results integers maps sets most (in_order entries) (are-in_order entries h))
+      given_braces (in_order entries) (given_entries types many results integers maps sets most (in_order entries) (are-in_order entries h))
 
   pub marks-law : MarksLaw
   unfolding marks_behind ordered_onto replaced on_top

@@ -1,9 +1,8 @@
 -- Elements that are printed and read again as themselves.
-use Rattle.std.proofs.Common.{◌≡◌, ℕ, ℤ, Bool, true, false, List, [], ◌∷◌, ◌++◌, refl, ap}
+use Rattle.std.proofs.Common.{◌≡◌, ℕ, Bool, true, false, List, [], ◌∷◌, refl, ap}
 use Rattle.std.proofs.lemmas.List.{reverse-reverse}
 use Rattle.std.specs.Prelude.{if◌then◌else◌, Some, codes}
 use Rattle.av_lex.specs.declared.token.Kind.TheVariants as kinds
-use Rattle.av_lex.specs.declared.token.Sign.TheVariants as signs
 use Rattle.av_tree.specs.declared.attribute.Element.{Element}
 use Rattle.av_tree.specs.declared.attribute.Element as elements
 use Rattle.av_tree.specs.declared.table.Symbol.{Symbol}
@@ -21,7 +20,7 @@ use Rattle.av_written.proofs.AttrEquations.{element-number, element-bool, elemen
 use Rattle.av_round_trip.specs.Giving.{Gives}
 use Rattle.av_round_trip.specs.Types.{IntegersLaw}
 use Rattle.av_round_trip.specs.Attributes.{IsElement, AreElements, number_element, truth_element, list_element, no_elements, one_element_more}
-use Rattle.av_round_trip.proofs.Giving.{none, join, given_as, given_row, given_sign, given_token, Every, ListRows, given_commas}
+use Rattle.av_round_trip.proofs.Giving.{none, given_as, given_row, given_token, given_square, Every, ListRows, given_commas}
 use Rattle.av_round_trip.proofs.WordTests.{fits_truth}
 
 -- ---- `true` and `false`
@@ -59,7 +58,7 @@ module _ {most : ℕ} where
   given_list items each =
       given_as (element-list items)
       (given_row (rule.Attribute attributes_rule.ListElement) refl tt
-      (join (join (given_sign signs.OpenSquare) (given_commas element_rows element_pieces items each)) (given_sign signs.CloseSquare))
+      (given_square (given_commas element_rows element_pieces items each))
       (ap (λ (es : List Element). Some (value.Element (elements.List es) ∷ [])) (reverse-reverse items)))
 
 module _ (integers : IntegersLaw) (most : ℕ) where

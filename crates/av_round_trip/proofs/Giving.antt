@@ -1,5 +1,5 @@
 -- Symbols give the words of pieces, and the values that the rows make of them: a calculus that follows the pieces.
-use Rattle.std.proofs.Common.{◌≡◌, ℕ, List, [], ◌∷◌, ◌++◌, map, append-nil, append_assoc, refl, sym, ap, ◌∙◌}
+use Rattle.std.proofs.Common.{◌≡◌, ℕ, List, [], ◌∷◌, ◌++◌, map, append-nil, append_assoc, refl, sym, ap}
 use Rattle.std.specs.List.{All}
 use Rattle.std.proofs.lemmas.List.{reverse-append}
 use Rattle.std.proofs.lemmas.List.Elements.{All-head, All-tail}
@@ -18,12 +18,12 @@ use Rattle.av_tree.specs.declared.table.Rule.{Rule}
 use Rattle.av_tree.specs.Classes.{fits_of}
 use Rattle.av_tree.specs.Signs.{begins_expression}
 use Rattle.av_tree.specs.Table.{symbols_of, name_of}
-use Rattle.av_printer.specs.Pieces.{Piece, blank, line, word, space, new_line, token, sign, plain, spaced, comma, colon, commas, behind, in_round}
+use Rattle.av_printer.specs.Pieces.{Piece, blank, line, word, space, new_line, token, sign, plain, spaced, comma, colon, commas, behind, in_round, in_square, in_curly}
 use Rattle.av_reader.specs.Building as building
 use Rattle.av_values.specs.declared.value.Value.{Value}
 use Rattle.av_values.specs.declared.value.Value.TheVariants as value
 use Rattle.av_written.specs.Spacing.{words_of}
-use Rattle.av_again.specs.Making.{class_of_word, FewSigns, Makes, nothing, by_sign, by_word, by_token}
+use Rattle.av_again.specs.Making.{class_of_word, FewSigns, nothing, by_sign, by_word, by_token}
 use Rattle.av_round_trip.proofs.Following.{followed, row, respelled, revalued}
 use Rattle.av_round_trip.specs.Giving.{Gives}
 
@@ -96,14 +96,33 @@ module _ {most : ℕ} where
       → Gives most (symbol.Sign signs.OpenRound ∷ (ss ++ symbol.Sign signs.CloseRound ∷ [])) (in_round ps) (vs ++ [])
   given_round inner = join (join (given_sign signs.OpenRound) inner) (given_sign signs.CloseRound)
 
+  pub given_square : {ss : List Symbol} {ps : List Piece} {vs : List Value} → Gives most ss ps vs
+      → Gives most (symbol.Sign signs.OpenSquare ∷ (ss ++ symbol.Sign signs.CloseSquare ∷ [])) (in_square ps) (vs ++ [])
+  given_square inner = join (join (given_sign signs.OpenSquare) inner) (given_sign signs.CloseSquare)
+
+  pub given_curly : {ss : List Symbol} {ps : List Piece} {vs : List Value} → Gives most ss ps vs
+      → Gives most (symbol.Sign signs.OpenCurly ∷ (ss ++ symbol.Sign signs.CloseCurly ∷ [])) (in_curly ps) (vs ++ [])
+  given_curly inner = join (join (given_sign signs.OpenCurly) inner) (given_sign signs.CloseCurly)
+
 -- ---- lists from the last item to the first
-reverse-first : {A : Type 0} (x : A) (xs : List A) → reverse xs ++ x ∷ [] ≡ reverse (x ∷ xs)
+pub reverse-first : {A : Type 0} (x : A) (xs : List A) → reverse xs ++ x ∷ [] ≡ reverse (x ∷ xs)
 reverse-first x xs = sym (reverse-append (x ∷ []) xs)
 
 -- each item gives its values
 abbrev pub Every : {A : Type 0} → ℕ → List Symbol → (A → List Piece) → (A → List Value) → List A → Type 0
 Every most items pieces values [] = Unit {0}
 Every most items pieces values (x ∷ xs) = Gives most items (pieces x) (values x) × Every most items pieces values xs
+
+pub every-all : {A : Type 0} {most : ℕ} {items : List Symbol} {pieces : A → List Piece} {values : A → List Value} {P : A → Type 0}
+    → ((x : A) → P x → Gives most items (pieces x) (values x)) → (xs : List A) → All P xs → Every most items pieces values xs
+every-all gives [] all = tt
+every-all {P = P} gives (x ∷ xs) all = (gives x (All-head P x xs all), every-all gives xs (All-tail P x xs all))
+
+-- the rows of items that each stand behind a comma
+pub record MoreRows {A : Type 0} (most : ℕ) (items : List Symbol) (more : Name) (values : A → List Value) (list : List A → Value) : Type 0 where
+  pub no_more : Gives most (symbol.Rows more ∷ []) [] (list [] ∷ [])
+  pub next : {ps : List Piece} (x : A) (xs : List A) → Gives most (symbol.Sign signs.Comma ∷ (items ++ symbol.Rows more ∷ [])) ps (values x ++ list xs ∷ [])
+      → Gives most (symbol.Rows more ∷ []) ps (list (xs ++ x ∷ []) ∷ [])
 
 -- the rows of a list of items with commas between them
 pub record ListRows {A : Type 0} (most : ℕ) (items : List Symbol) (front more : Name) (values : A → List Value) (list : List A → Value) : Type 0 where
@@ -114,28 +133,26 @@ pub record ListRows {A : Type 0} (most : ℕ) (items : List Symbol) (front more 
   pub next : {ps : List Piece} (x : A) (xs : List A) → Gives most (symbol.Sign signs.Comma ∷ (items ++ symbol.Rows more ∷ [])) ps (values x ++ list xs ∷ [])
       → Gives most (symbol.Rows more ∷ []) ps (list (xs ++ x ∷ []) ∷ [])
 
+module _ {A : Type 0} {most : ℕ} {items : List Symbol} {more : Name} {values : A → List Value} {list : List A → Value}
+    (rows : MoreRows most items more values list) (pieces : A → List Piece) where
+  pub given_more : (xs : List A) → Every most items pieces values xs → Gives most (symbol.Rows more ∷ []) (behind (map pieces xs)) (list (reverse xs) ∷ [])
+  unfolding behind
+  given_more [] h = rows.no_more
+  given_more (x ∷ xs) h =
+      given_revalued (ap list (reverse-first x xs))
+      (rows.next x (reverse xs) (given_as (append_assoc comma (pieces x) (behind (map pieces xs))) (join given_comma (join h.0 (given_more xs h.1)))))
+
 module _ {A : Type 0} {most : ℕ} {items : List Symbol} {front more : Name} {values : A → List Value} {list : List A → Value}
     (rows : ListRows most items front more values list) (pieces : A → List Piece) where
   pub given_behind : (xs : List A) → Every most items pieces values xs → Gives most (symbol.Rows more ∷ []) (behind (map pieces xs)) (list (reverse xs) ∷ [])
-  unfolding behind
-  given_behind [] h = rows.no_more
-  given_behind (x ∷ xs) h =
-      given_revalued (ap list (reverse-first x xs))
-      (rows.next x (reverse xs) (given_as (append_assoc comma (pieces x) (behind (map pieces xs))) (join given_comma (join h.0 (given_behind xs h.1)))))
+  given_behind xs h = given_more (record { no_more = rows.no_more; next = rows.next }) pieces xs h
 
   pub given_commas : (xs : List A) → Every most items pieces values xs → Gives most (symbol.Rows front ∷ []) (commas (map pieces xs)) (list (reverse xs) ∷ [])
   unfolding commas
   given_commas [] h = rows.no_front
   given_commas (x ∷ xs) h = given_revalued (ap list (reverse-first x xs)) (rows.first x (reverse xs) (join h.0 (given_behind xs h.1)))
 
-  -- the same where what each item is gives its values
-  module _ {P : A → Type 0} (gives : (x : A) → P x → Gives most items (pieces x) (values x)) where
-    every : (xs : List A) → All P xs → Every most items pieces values xs
-    every [] all = tt
-    every (x ∷ xs) all = (gives x (All-head P x xs all), every xs (All-tail P x xs all))
-
-    pub given_all_behind : (xs : List A) → All P xs → Gives most (symbol.Rows more ∷ []) (behind (map pieces xs)) (list (reverse xs) ∷ [])
-    given_all_behind xs all = given_behind xs (every xs all)
-
-    pub given_all : (xs : List A) → All P xs → Gives most (symbol.Rows front ∷ []) (commas (map pieces xs)) (list (reverse xs) ∷ [])
-    given_all xs all = given_commas xs (every xs all)
+  -- the same from what each item is
+  pub given_all : {P : A → Type 0} → ((x : A) → P x → Gives most items (pieces x) (values x)) → (xs : List A) → All P xs
+      → Gives most (symbol.Rows front ∷ []) (commas (map pieces xs)) (list (reverse xs) ∷ [])
+  given_all gives xs all = given_commas xs (every-all gives xs all)

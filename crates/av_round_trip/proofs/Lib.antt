@@ -1,6 +1,14 @@
 pub mod Following
 pub mod Decimals
 pub mod Giving
+pub mod Types
+pub mod Quotes
+pub mod ReadNodes
+pub mod Parts
+pub mod Regions
+pub mod Nodes
+pub mod Trees
+pub mod Texts
 pub mod WordTests
 pub mod Elements
 pub mod Attributes

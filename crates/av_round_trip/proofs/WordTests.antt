@@ -50,7 +50,7 @@ other_name (entry ∷ rest) text all other =
     either (IsName text) (bytes_eq text entry.0) (Some entry.1) (found_in rest text)
     (λ same.
     let not_it : bytes_eq entry.0 function_type ≡ false =
-        sym (ap (λ (word : List ℕ). bytes_eq word function_type) ((bytes_eq-Decides text entry.0).0 same)) ∙ other in
+    sym (ap (λ (word : List ℕ). bytes_eq word function_type) ((bytes_eq-Decides text entry.0).0 same)) ∙ other in
     second (bytes_eq entry.0 function_type) (is_entry_name (class.Word entry.1)) not_it each.0)
     (λ differ. other_name rest text each.1 other)
 

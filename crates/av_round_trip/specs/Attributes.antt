@@ -1,13 +1,11 @@
 -- Attributes and dictionaries that are printed and read again as themselves.
-use Rattle.std.specs.Prelude.{ℕ, ℤ, ◌≡◌, ◌≢◌, Bool, List, [], ◌∷◌, reverse, codes}
+use Rattle.std.specs.Prelude.{ℕ, ℤ, ◌≡◌, Bool, List, [], ◌∷◌, reverse, codes}
 use Rattle.std.specs.List.{All}
 use Rattle.av_lex.specs.declared.token.Kind.TheVariants as kinds
 use Rattle.av_tree.specs.declared.class.Class.TheVariants as class
-use Rattle.av_tree.specs.declared.table.Symbol.{Symbol}
 use Rattle.av_tree.specs.declared.table.Symbol.TheVariants as symbol
 use Rattle.av_tree.specs.declared.table.Name.TheVariants as name
 use Rattle.av_tree.specs.declared.table.attributes.AttributeName.TheVariants as attributes_name
-use Rattle.av_tree.specs.declared.table.generic.GenericName.TheVariants as generic_name
 use Rattle.av_tree.specs.declared.written.TypeText.{TypeText, Func}
 use Rattle.av_tree.specs.declared.written.MapText.{MapText}
 use Rattle.av_tree.specs.declared.written.SetText.{SetText}
@@ -16,9 +14,8 @@ use Rattle.av_tree.specs.declared.attribute.Element as elements
 use Rattle.av_tree.specs.declared.attribute.Attr.{Attr}
 use Rattle.av_tree.specs.declared.attribute.Attr as attrs
 use Rattle.av_tree.specs.declared.attribute.Named.{Named, out-Named}
-use Rattle.av_printer.specs.Attributes.{attribute, entry_pieces}
+use Rattle.av_printer.specs.Attributes.{attribute}
 use Rattle.av_printer.specs.Dictionaries.{dictionary, in_order}
-use Rattle.av_printer.specs.Operations.{marks_behind, properties_behind}
 use Rattle.av_values.specs.declared.value.Value.TheVariants as value
 use Rattle.av_written.specs.ReadExpressions.{IsShortInteger}
 use Rattle.av_again.specs.Making.{class_of_word}
@@ -85,13 +82,3 @@ AttributesLaw = (most : ℕ) (a : Attr) → IsAttribute most a
 abbrev pub DictionariesLaw : Type 0
 DictionariesLaw = (most : ℕ) (entries : List Named) → AreEntries most entries
     → Gives most (symbol.Rows (name.Attribute attributes_name.Entries) ∷ []) (dictionary entries) (value.Entries (reverse (in_order entries)) ∷ [])
-
--- the same in curly brackets, and nothing where there is no entry
-abbrev pub MarksLaw : Type 0
-MarksLaw = (most : ℕ) (entries : List Named) → AreEntries most entries
-    → Gives most (symbol.Rows (name.Attribute attributes_name.OptionalDictionary) ∷ []) (marks_behind entries) (value.Entries (reverse (in_order entries)) ∷ [])
-
--- the same in `<{` and `}>`
-abbrev pub PropertiesLaw : Type 0
-PropertiesLaw = (most : ℕ) (entries : List Named) → AreEntries most entries
-    → Gives most (symbol.Rows (name.Generic generic_name.Properties) ∷ []) (properties_behind entries) (value.Entries (reverse (in_order entries)) ∷ [])

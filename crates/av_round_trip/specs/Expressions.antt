@@ -20,7 +20,7 @@ use Rattle.av_round_trip.specs.Giving.{Gives}
 
 -- the numbers in an expression have at most 38 digits
 pub data HasShortNumbers : ExprText → Type 0 where
-  name : (text : List ℕ) → HasShortNumbers (Name text)
+  named : (text : List ℕ) → HasShortNumbers (Name text)
   number : (z : ℤ) → IsShortInteger z → HasShortNumbers (Const z)
   negation : (a : ExprText) → HasShortNumbers a → HasShortNumbers (Neg a)
   sum : (a b : ExprText) → HasShortNumbers a → HasShortNumbers b → HasShortNumbers (Add a b)

@@ -1,5 +1,5 @@
 -- Values, numbers and types that are printed and read again as themselves.
-use Rattle.std.specs.Prelude.{ℕ, ℤ, ◌≡◌, List, [], ◌∷◌, ◌++◌, map, reverse, Option, Some, None}
+use Rattle.std.specs.Prelude.{ℕ, ℤ, ◌≡◌, List, [], ◌∷◌, map, reverse, Option}
 use Rattle.std.specs.List.{All}
 use Rattle.av_lex.specs.declared.token.Kind.TheVariants as kinds
 use Rattle.av_tree.specs.declared.class.Class.TheVariants as class
@@ -11,9 +11,9 @@ use Rattle.av_tree.specs.declared.table.values.ValueName.TheVariants as values_n
 use Rattle.av_tree.specs.declared.written.SizeText.{SizeText}
 use Rattle.av_tree.specs.declared.written.DimText.{DimText}
 use Rattle.av_tree.specs.declared.written.LayoutText.{LayoutText}
-use Rattle.av_tree.specs.declared.written.TypeText.{TypeText, Scalar, MemRef, Vector, Func}
+use Rattle.av_tree.specs.declared.written.TypeText.{TypeText, Scalar, MemRef, Vector}
 use Rattle.av_printer.specs.Pieces.{commas}
-use Rattle.av_printer.specs.Expressions.{before, from, value as value_pieces, number, result_name}
+use Rattle.av_printer.specs.Expressions.{from, value as value_pieces, number}
 use Rattle.av_printer.specs.Types.{type_pieces, one_or_several}
 use Rattle.av_values.specs.declared.value.Value.TheVariants as value
 use Rattle.av_written.specs.ReadTypes.{IsShortSize, IsShortDim, IsShortLayout}
