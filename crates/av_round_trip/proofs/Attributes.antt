@@ -46,10 +46,10 @@ use Rattle.av_round_trip.specs.Giving.{Gives}
 use Rattle.av_round_trip.specs.Types.{IsType, a_type, TypesLaw, ManyTypesLaw, ResultTypesLaw, IntegersLaw}
 use Rattle.av_round_trip.specs.Expressions.{IsMap, IsSet, MapsLaw, SetsLaw}
 use Rattle.av_round_trip.specs.Attributes as part
-use Rattle.av_round_trip.specs.Attributes.{IsElement, IsAliasName, IsAttribute, AreAttributes, IsEntryValue, AreEntries, AttributesLaw, no_attributes, one_attribute_more, no_entries, one_entry_more}
+use Rattle.av_round_trip.specs.Attributes.{IsElement, IsAttribute, AreAttributes, IsEntryValue, AreEntries, AttributesLaw, no_attributes, one_attribute_more, no_entries, one_entry_more}
 use Rattle.av_round_trip.proofs.Giving.{none, join, given_as, given_row, given_sign, given_spaced, given_word, given_token, given_colon, given_round, given_square, given_curly, reverse-first, Every, every-all, ListRows, given_behind, given_commas}
 use Rattle.av_round_trip.proofs.Quotes.{in_quotes, unquoted-is, quoted_fits}
-use Rattle.av_round_trip.proofs.WordTests.{fits_word, by_name, class-function_type, class-array, class-dense}
+use Rattle.av_round_trip.proofs.WordTests.{fits_word, by_name, by_hash, class-function_type, class-array, class-dense}
 use Rattle.av_round_trip.proofs.Elements.{is_true-word, given_truth, given_element}
 
 -- ---- words and texts
@@ -96,15 +96,22 @@ module _ {most : ℕ} where
   unfolding replaced on_top
   given_alone bytes fits = given_row (rule.Attribute attributes_rule.AliasAttribute) refl tt (given_token test.AliasOnly kinds.HashId bytes fits) refl
 
-  given_alias : (bytes : List ℕ) → IsAliasName bytes → Gives most an_attribute (token kinds.HashId bytes) (value.Attr (attr.AliasUse bytes) ∷ [])
+  -- where words in `<` and `>` might follow
+  given_bare : (bytes : List ℕ) → class_of_word (kinds.HashId, bytes) ≡ class.HashWord
+      → Gives most an_attribute (token kinds.HashId bytes) (value.Attr (attr.AliasUse bytes) ∷ [])
   unfolding token replaced on_top
-  given_alias bytes (part.digits is) = given_alone bytes (of_class test.AliasOnly _ class.HashDigits is refl)
-  given_alias bytes (part.other is) = given_alone bytes (of_class test.AliasOnly _ class.HashOther is refl)
-  given_alias bytes (part.word is) =
+  given_bare bytes is =
       given_row (rule.Attribute attributes_rule.HashAttribute) refl tt
       (join (given_token test.HashWord kinds.HashId bytes (of_class test.HashWord _ class.HashWord is refl))
       (given_row (rule.Attribute attributes_rule.NoHashWords) refl tt none refl))
       refl
+
+  given_alias : (bytes : List ℕ) → Gives most an_attribute (token kinds.HashId bytes) (value.Attr (attr.AliasUse bytes) ∷ [])
+  given_alias bytes =
+      by_hash
+      (λ (c : Class). class_of_word (kinds.HashId, bytes) ≡ c → Gives most an_attribute (token kinds.HashId bytes) (value.Attr (attr.AliasUse bytes) ∷ []))
+      (λ is. given_alone bytes (of_class test.AliasOnly _ class.HashDigits is refl)) (given_bare bytes)
+      (λ is. given_alone bytes (of_class test.AliasOnly _ class.HashOther is refl)) bytes refl
 
   word_rows : ListRows most (symbol.Token test.Word ∷ []) (name.Map maps_name.Words) (name.Map maps_name.MoreWords) (λ (bytes : List ℕ). value.Text bytes ∷ []) value.Texts
   unfolding replaced on_top
@@ -329,7 +336,7 @@ module _ (types : TypesLaw) (many : ManyTypesLaw) (results : ResultTypesLaw) (in
     given_attribute _ (part.typed ty h) = record { pieces = type_pieces ty; is = attr-type ty; gives = given_type ty h }
     given_attribute _ (part.mapped m h) = record { pieces = map_pieces m; is = attr-map m; gives = given_map m h }
     given_attribute _ (part.bounded s h) = record { pieces = set_pieces s; is = attr-set s; gives = given_set s h }
-    given_attribute _ (part.alias bytes h) = record { pieces = token kinds.HashId bytes; is = attr-aliasuse bytes; gives = given_alias bytes h }
+    given_attribute _ (part.alias bytes) = record { pieces = token kinds.HashId bytes; is = attr-aliasuse bytes; gives = given_alias bytes }
     given_attribute _ (part.hashed bytes words h) =
         record { pieces = hashed bytes words; is = attr-hash bytes words; gives = given_hashed bytes words h }
     given_attribute _ (part.list items h) =

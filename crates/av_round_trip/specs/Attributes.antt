@@ -34,12 +34,6 @@ mutual
     no_elements : AreElements []
     one_element_more : (e : Element) (es : List Element) → IsElement e → AreElements es → AreElements (e ∷ es)
 
--- the name of an alias, which is no `#` and a word that words in `<` and `>` may follow
-pub data IsAliasName (text : List ℕ) : Type 0 where
-  digits : class_of_word (kinds.HashId, text) ≡ class.HashDigits → IsAliasName text
-  word : class_of_word (kinds.HashId, text) ≡ class.HashWord → IsAliasName text
-  other : class_of_word (kinds.HashId, text) ≡ class.HashOther → IsAliasName text
-
 mutual
   -- an attribute that stands as a value; a unit is none, and a function type stands only behind the name `function_type`
   pub data IsAttribute (most : ℕ) : Attr → Type 0 where
@@ -50,7 +44,8 @@ mutual
     typed : (ty : TypeText) → IsType ty → IsAttribute most (attrs.Type ty)
     mapped : (m : MapText) → IsMap most m → IsAttribute most (attrs.Map m)
     bounded : (s : SetText) → IsSet most s → IsAttribute most (attrs.Set s)
-    alias : (text : List ℕ) → IsAliasName text → IsAttribute most (attrs.AliasUse text)
+    alias : (text : List ℕ) → IsAttribute most (attrs.AliasUse text)
+    -- words in `<` and `>` follow a `#` and a word alone
     hashed : (text : List ℕ) (words : List (List ℕ)) → class_of_word (kinds.HashId, text) ≡ class.HashWord → IsAttribute most (attrs.Hash text words)
     list : (items : List Attr) → AreAttributes most items → IsAttribute most (attrs.List items)
     -- the entries of an inner dictionary are written as they stand
