@@ -3,10 +3,15 @@ pub mod Decimals
 pub mod Giving
 pub mod Types
 pub mod Quotes
+pub mod WordTests
+pub mod Elements
+pub mod Attributes
+pub mod Dictionaries
 pub mod ReadNodes
 pub mod Parts
 pub mod Regions
 pub mod Nodes
 pub mod Trees
 pub mod Texts
+pub mod Wholes
 pub mod Example
