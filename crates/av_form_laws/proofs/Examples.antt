@@ -14,7 +14,8 @@ use Rattle.av_dialects.specs.declared.item.Key.TheVariants as key
 use Rattle.av_dialects.specs.Rows.{predicates}
 use Rattle.av_form_laws.specs.Examples.{CastExamples, LineExamples, MarkExamples, OperandExamples, TypedExamples, WordsFit}
 use Rattle.av_form_laws.specs.Lines.{Line}
-use Rattle.av_form_laws.specs.Properties.{entry, first_word, is_word_of, long, place_in, word_at, word_entry, word_in}
+use Rattle.av_values.specs.Nodes.{entry}
+use Rattle.av_form_laws.specs.Properties.{first_word, is_word_of, long, place_in, word_at, word_entry, word_in}
 
 cast-examples : CastExamples
 cast-examples t u i j = (

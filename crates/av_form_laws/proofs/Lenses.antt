@@ -1,7 +1,10 @@
 -- What is put back where it was taken is the operation.
-use Rattle.std.proofs.Common.{◌≡◌, ℕ, ◌-◌, zero, suc, List, [], ◌∷◌, ◌++◌, length, drop, set, Option, None, Some, slice_get, refl, ap, sym, ◌∙◌}
-use Rattle.std.proofs.lemmas.List.{length-set, map-append, take-append-drop}
+use Rattle.std.proofs.Common.{◌≡◌, ℕ, ◌-◌, zero, suc, List, [], ◌∷◌, ◌++◌, length, drop, set, Option, None, Some, slice_get, take, refl, ap, sym, ◌∙◌}
+use Rattle.std.proofs.lemmas.List.{append-nil, length-map, length-set, map-append, take-append-drop}
+use Rattle.av_tree.specs.declared.node.Body.{Body}
 use Rattle.av_tree.specs.declared.written.TypeText.{TypeText}
+use Rattle.av_values.specs.Loops.{counter}
+use Rattle.av_values.specs.declared.value.Expression.{Expression}
 use Rattle.av_dialects.specs.declared.item.Item.{Item}
 use Rattle.av_dialects.specs.declared.item.Item.TheVariants as item
 use Rattle.av_dialects.specs.declared.item.Slot.{Slot}
@@ -11,7 +14,10 @@ use Rattle.av_dialects.specs.declared.item.Slots.TheVariants as slots
 use Rattle.av_tree.specs.declared.attribute.Named.{Named}
 use Rattle.std.specs.Prelude.{codes}
 use Rattle.av_form_laws.specs.Attributes.{constant_type, first_applied, first_constant}
-use Rattle.av_form_laws.specs.Items.{applied_entry, Fits, HasFirst, StandsAt, chosen, give, opened, rest, taken}
+use Rattle.av_form_laws.specs.Items.{AreCarried, AreNumbered, access_taken, applied_entry, bound_size, Fits, HasFirst, StandsAt, chosen, give, opened, rest, taken, with_last}
+use Rattle.av_form_laws.specs.Loops.{Carrying, args_in, args_of, first_name, inits_of, paired, types_of, with_args_in}
+use Rattle.av_form_laws.specs.Subscripts.{numbered_map}
+use Rattle.av_form_laws.proofs.Regions.{args-back, last-twice}
 use Rattle.av_form_laws.specs.Lines.{Line, all_written, at_slot, back, cleared, filled, first_text, front, known, put_at_slot, type_at, unwritten}
 
 -- ---- operands
@@ -27,6 +33,15 @@ element-parts k xs h = ap (λ ys. first_text xs ∷ ys) (front-back k (drop 1 xs
 
 with-operands : (n : Line) (xs : List (List ℕ)) → xs ≡ n.operands → record n { operands = xs } ≡ n
 with-operands n xs e = ap (λ (ys : List (List ℕ)). let m : Line = record n { operands = ys } in m) e
+
+line-same : (n : Line) (ops : List (List ℕ)) (bodies : List Body) (ins outs : List (Option TypeText))
+    → ops ≡ n.operands → bodies ≡ n.regions → ins ≡ n.in_types → outs ≡ n.out_types
+    → record n { operands = ops; regions = bodies; in_types = ins; out_types = outs } ≡ n
+line-same n ops bodies ins outs e f g h =
+    ap (λ xs. let m : Line = record n { operands = xs; regions = bodies; in_types = ins; out_types = outs } in m) e
+    ∙ ap (λ xs. let m : Line = record n { regions = xs; in_types = ins; out_types = outs } in m) f
+    ∙ ap (λ xs. let m : Line = record n { in_types = xs; out_types = outs } in m) g
+    ∙ ap (λ xs. let m : Line = record n { out_types = xs } in m) h
 
 -- ---- types
 set-back : {A : Type 0} (xs : List A) (i : ℕ) (x y : A) → slice_get xs i ≡ Some x → set (set xs i y) i x ≡ xs
@@ -70,6 +85,36 @@ applied-back k n e h =
     ap (λ (xs : List (List ℕ)). let m : Line = record n { operands = xs; properties = e ∷ drop 1 n.properties } in m) (front-back k n.operands)
     ∙ ap (λ (ps : List Named). let m : Line = record n { properties = ps } in m) (sym h)
 
+-- ---- bounds, carried values and subscripts
+bound-back : (n : Line) (ps : List Named) → n.properties ≡ ps
+    → record n { operands = take (bound_size n) n.operands ++ drop (bound_size n) n.operands; properties = ps } ≡ n
+bound-back n ps h =
+    ap (λ (xs : List (List ℕ)). let m : Line = record n { operands = xs; properties = ps } in m) (take-append-drop (bound_size n) n.operands)
+    ∙ ap (λ (es : List Named). let m : Line = record n { properties = es } in m) (sym h)
+
+access-back : (k : ℕ) (n : Line) (subscripts : List Expression) → HasFirst n.operands → AreNumbered subscripts k n
+    → give item.Access (first_text n.operands, subscripts) (rest item.Access k n) ≡ n
+access-back k n subscripts first h =
+    ap (λ (xs : List (List ℕ)). let m : Line = record n { operands = first_text n.operands ∷ (xs ++ back k (drop 1 n.operands)); properties = applied_entry (codes "map") (numbered_map subscripts) ∷ drop 1 n.properties } in m) (sym h.0)
+    ∙ ap (λ (xs : List (List ℕ)). let m : Line = record n { operands = xs; properties = applied_entry (codes "map") (numbered_map subscripts) ∷ drop 1 n.properties } in m) (element-parts k n.operands first)
+    ∙ ap (λ (es : List Named). let m : Line = record n { properties = es } in m) (sym h.1)
+
+-- as many types as values
+same-length : (k : ℕ) (n : Line) (cs : List Carrying) → front k n.operands ≡ inits_of cs
+    → length (all_written (types_of cs)) ≡ length (unwritten (front k n.operands))
+same-length k n cs h =
+    length-map (types_of cs) (λ (t : TypeText). Some t) ∙ length-map cs (λ (c : Carrying). c.0.ty) ∙ sym (length-map cs (λ (c : Carrying). c.1))
+    ∙ ap length (sym h) ∙ sym (length-map (front k n.operands) (λ _. None))
+
+carried-back : (k : ℕ) (n : Line) (cs : List Carrying) → AreCarried cs k n → give item.Carried cs (rest item.Carried k n) ≡ n
+carried-back k n cs h =
+    let ops : inits_of cs ++ back k n.operands ≡ n.operands = ap (λ xs. xs ++ back k n.operands) (sym h.1) ∙ front-back k n.operands in
+    let bodies : with_args_in (args_of cs ++ args_in (with_args_in [] n.regions)) (with_args_in [] n.regions) ≡ n.regions =
+    args-back (args_of cs) [] n.regions (h.0 ∙ sym (append-nil (args_of cs))) in
+    let ins : with_last (all_written (types_of cs)) (with_last (unwritten (front k n.operands)) n.in_types) ≡ n.in_types =
+    last-twice (all_written (types_of cs)) (unwritten (front k n.operands)) n.in_types (same-length k n cs h.1) ∙ sym h.2 in
+    line-same n _ _ _ _ ops bodies ins (sym h.3)
+
 -- ---- each item
 -- put back where it was taken
 pub give-taken : (i : Item) (k : ℕ) (n : Line) → Fits i k n → give i (taken i k n) (rest i k n) ≡ n
@@ -94,11 +139,25 @@ give-taken item.Constant k n h =
     ∙ ap (λ (ts : List (Option TypeText)). let m : Line = record n { out_types = ts } in m) (sym h.1)
 give-taken item.Map k n h = applied-back k n (applied_entry (codes "map") (first_applied n.properties)) h.1
 give-taken item.Set k n h = applied-back k n (applied_entry (codes "condition") (first_applied n.properties)) h.1
-give-taken _ k n h = absurd h
+give-taken item.Access k n h = access-back k n (access_taken k n).1 h.0 h.1
+give-taken item.Counter k n h =
+    ap (λ bodies. let m : Line = record n { regions = bodies } in m)
+    (args-back (counter (first_name (args_in n.regions)) ∷ []) (drop 1 (args_in n.regions)) n.regions h)
+give-taken item.LowerBound k n h = bound-back n _ h.1
+give-taken item.UpperBound k n h = bound-back n _ h.1
+give-taken item.Step k n h = ap (λ ps. let m : Line = record n { properties = ps } in m) (sym h)
+give-taken item.Carried k n h = carried-back k n (paired (args_in n.regions) (front k n.operands)) h.0
+give-taken item.ResultTypes k n h = ap (λ (ts : List (Option TypeText)). let m : Line = record n { out_types = ts } in m) (sym h.0)
+give-taken item.Region k n h = ap (λ bodies. let m : Line = record n { regions = bodies } in m) (sym h)
+give-taken item.Else k n h = ap (λ bodies. let m : Line = record n { regions = bodies } in m) (sym h)
+give-taken item.ByHand k n h = absurd h
 
 -- the operands of both parts are those of the operation
+none-parts : (k : ℕ) (xs : List (List ℕ)) → unwritten (take k xs) ++ unwritten (drop k xs) ≡ unwritten xs
+none-parts k xs = sym (map-append (λ _. None) (take k xs) (drop k xs)) ∙ ap unwritten (take-append-drop k xs)
+
 none-each : (k : ℕ) (xs : List (List ℕ)) → unwritten (front k xs) ++ unwritten (back k xs) ≡ unwritten xs
-none-each k xs = sym (map-append (λ _. None) (front k xs) (back k xs)) ∙ ap unwritten (front-back k xs)
+none-each k xs = none-parts (length xs - k) xs
 
 pub opened-taken : (i : Item) (k : ℕ) (n : Line) → Fits i k n → opened i (taken i k n) ++ unwritten (rest i k n).operands ≡ unwritten n.operands
 opened-taken (item.Operand t) k n h = ap unwritten (first-rest n.operands h)
@@ -116,4 +175,16 @@ opened-taken item.Marks k n h = refl
 opened-taken item.Constant k n h = refl
 opened-taken item.Map k n h = none-each k n.operands
 opened-taken item.Set k n h = none-each k n.operands
-opened-taken _ k n h = absurd h
+opened-taken item.Access k n h =
+    ap (λ vs. None ∷ (unwritten vs ++ unwritten (back k (drop 1 n.operands)))) (sym h.1.0)
+    ∙ ap (λ ts. None ∷ ts) (none-each k (drop 1 n.operands)) ∙ ap unwritten (first-rest n.operands h.0)
+opened-taken item.Counter k n h = refl
+opened-taken item.LowerBound k n h = none-parts (bound_size n) n.operands
+opened-taken item.UpperBound k n h = none-parts (bound_size n) n.operands
+opened-taken item.Step k n h = refl
+opened-taken item.Carried k n h =
+    ap (λ vs. unwritten vs ++ unwritten (back k n.operands)) (sym h.0.1) ∙ none-each k n.operands
+opened-taken item.ResultTypes k n h = refl
+opened-taken item.Region k n h = refl
+opened-taken item.Else k n h = refl
+opened-taken item.ByHand k n h = absurd h

@@ -3,4 +3,7 @@ pub mod Forms
 pub mod Given
 pub mod Lenses
 pub mod Printed
+pub mod Reading
+pub mod Regions
+pub mod Subscripts
 pub mod Tables

@@ -4,8 +4,11 @@ pub mod FormLaws
 pub mod Grammar
 pub mod Items
 pub mod Lines
+pub mod Loops
 pub mod Properties
+pub mod Reading
 pub mod Rows
+pub mod Subscripts
 pub mod Tables
 pub mod Values
 pub mod Words

@@ -5,15 +5,13 @@ use Rattle.std.specs.Str.{bytes_eq}
 use Rattle.av_tree.specs.declared.attribute.Attr.{Attr, Attr-F, out-Attr}
 use Rattle.av_tree.specs.declared.attribute.Attr.TheVariants as attr
 use Rattle.av_tree.specs.declared.attribute.Attr.TheOpen as attrs
-use Rattle.av_tree.specs.declared.attribute.Named.{Named, out-Named, roll-Named}
+use Rattle.av_tree.specs.declared.attribute.Named.{Named, out-Named}
 use Rattle.av_tree.specs.declared.written.TypeText.{TypeText}
 use Rattle.av_tree.specs.declared.written.TypeText.TheVariants as types
+use Rattle.av_values.specs.Nodes.{entry}
 use Rattle.av_dialects.specs.declared.item.Key.{Key}
 use Rattle.av_dialects.specs.declared.item.Key.TheVariants as key
 use Rattle.av_dialects.specs.Rows.{kinds, overflow_flags, predicates, property_of}
-
-abbrev pub entry : List ℕ → Attr → Named
-entry name value = roll-Named (record { name = name; value = value })
 
 abbrev pub long : TypeText
 long = types.Scalar (codes "i64")

@@ -7,3 +7,10 @@ pub mod Expressions
 pub mod Maps
 pub mod Pairs
 pub mod Fewest
+pub mod Quotes
+pub mod ReadNodes
+pub mod Parts
+pub mod Regions
+pub mod Nodes
+pub mod Trees
+pub mod Texts

@@ -3,3 +3,4 @@ pub mod Types
 pub mod Expressions
 pub mod Attributes
 pub mod Trees
+pub mod Laws

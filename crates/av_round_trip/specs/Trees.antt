@@ -1,11 +1,15 @@
 -- Trees that are printed in the form that all operations have in common, and read again as themselves, but that entries of dictionaries stand in order of name.
-use Rattle.std.specs.Prelude.{ℕ, ◌≡◌, List, [], ◌∷◌, Option, Some, codes}
+use Rattle.std.specs.Prelude.{ℕ, ◌≡◌, List, [], ◌∷◌, reverse, Option, Some, codes}
 use Rattle.std.specs.List.{All}
 use Rattle.av_lex.specs.declared.token.Kind.TheVariants as kinds
 use Rattle.av_tree.specs.declared.class.Class.TheVariants as class
 use Rattle.av_tree.specs.declared.table.Symbol.TheVariants as symbol
 use Rattle.av_tree.specs.declared.table.Name.TheVariants as name
 use Rattle.av_tree.specs.declared.table.file.FileName.TheVariants as file_name
+use Rattle.av_tree.specs.declared.table.values.ValueName.TheVariants as values_name
+use Rattle.av_tree.specs.declared.table.generic.GenericName.TheVariants as generic_name
+use Rattle.av_tree.specs.declared.table.attributes.AttributeName.TheVariants as attributes_name
+use Rattle.av_tree.specs.declared.attribute.Named.{Named}
 use Rattle.av_tree.specs.declared.written.TypeText.{TypeText}
 use Rattle.av_tree.specs.declared.node.BodyArg.{BodyArg}
 use Rattle.av_tree.specs.declared.node.Node.{Node, Node-F, fold-Node, out-Node, roll-Node}
@@ -13,11 +17,13 @@ use Rattle.av_tree.specs.declared.node.Body.{Body, Body-F, fold-Body, out-Body, 
 use Rattle.av_printer.specs.declared.form.Form.TheVariants as forms
 use Rattle.av_printer.specs.Dictionaries.{in_order}
 use Rattle.av_printer.specs.Expressions.{from}
+use Rattle.av_printer.specs.Operations.{results_before, properties_behind, marks_behind}
 use Rattle.av_printer.specs.Spelling.{pieces_of}
 use Rattle.av_values.specs.declared.value.Value.TheVariants as value
 use Rattle.av_values.specs.Forms.{completed}
 use Rattle.av_written.specs.Spacing.{words_of}
 use Rattle.av_again.specs.Making.{Makes, class_of_word}
+use Rattle.av_round_trip.specs.Giving.{Gives}
 use Rattle.av_round_trip.specs.Types.{IsType, IsNameOfValue}
 use Rattle.av_round_trip.specs.Attributes.{AreEntries}
 
@@ -34,9 +40,23 @@ IsNameOfResults text = IsResultCount (from 58 text)
 pub data IsKnownType : Option TypeText → Type 0 where
   known : (t : TypeText) → IsType t → IsKnownType (Some t)
 
--- a branch without results has a terminator in its second region, or no operation without results is no branch
+-- nothing is put into an operation without names of results: if it is a branch, its second region has a terminator
 abbrev pub IsComplete : Node → Type 0
 IsComplete node = (out-Node node).results ≡ [] → completed node ≡ node
+
+-- the names of results before an operation that has some
+abbrev pub ResultsLaw : Type 0
+ResultsLaw = (most : ℕ) (first : List ℕ) (others : List (List ℕ)) → All IsNameOfResults (first ∷ others)
+    → Gives most (symbol.Rows (name.Value values_name.Results) ∷ []) (results_before (first ∷ others)) (value.Texts (reverse (first ∷ others)) ∷ [])
+
+-- dictionaries behind operations, which are read in order of name
+abbrev pub PropertiesLaw : Type 0
+PropertiesLaw = (most : ℕ) (entries : List Named) → AreEntries most entries
+    → Gives most (symbol.Rows (name.Generic generic_name.Properties) ∷ []) (properties_behind entries) (value.Entries (reverse (in_order entries)) ∷ [])
+
+abbrev pub MarksLaw : Type 0
+MarksLaw = (most : ℕ) (entries : List Named) → AreEntries most entries
+    → Gives most (symbol.Rows (name.Attribute attributes_name.OptionalDictionary) ∷ []) (marks_behind entries) (value.Entries (reverse (in_order entries)) ∷ [])
 
 -- an operation beside its regions
 pub record IsWholeLine (most : ℕ) (n : Node-F Body Node) : Type 0 where

@@ -1,0 +1,34 @@
+-- Texts that are spelled for trees, and read again as these trees.
+use Rattle.std.specs.Prelude.{ℕ, ◌≡◌, List, [], map, codes}
+use Rattle.av_lex.specs.declared.token.Token.{Token}
+use Rattle.av_lex.specs.Tokens.{Tokens}
+use Rattle.av_tree.specs.declared.node.Node.{Node, out-Node}
+use Rattle.av_tree.specs.declared.node.Tree.{Tree}
+use Rattle.av_derive.specs.Derivation.{WithinBrackets}
+use Rattle.av_reader.specs.Reading.{the_limits}
+use Rattle.av_printer.specs.declared.form.Form.TheVariants as forms
+use Rattle.av_printer.specs.Spelling.{pieces_of, spelling}
+use Rattle.av_written.specs.Spacing.{words_of}
+use Rattle.av_written.specs.ReadNodes.{IsReadNode}
+use Rattle.av_again.specs.Making.{class_of_word}
+use Rattle.av_again.specs.Laws.{IsReadAs}
+use Rattle.av_round_trip.specs.Trees.{IsWhole, as_read}
+
+-- A module that is spelled in words of their kinds, and is whole, where the limits of the format are kept.
+pub record IsReadable (root : Node) : Type 0 where
+  pub spelled : IsReadNode forms.Generic root
+  pub whole : IsWhole the_limits.signs root
+  pub named : (out-Node root).name ≡ codes "builtin.module"
+  pub alone : (out-Node root).results ≡ []
+  pub brackets : WithinBrackets the_limits.brackets 0 (map class_of_word (words_of (pieces_of forms.Generic root)))
+
+-- a text has tokens, and however it is divided into tokens, it is read as this tree
+pub record ReadsBackAs (text : List ℕ) (tree : Tree) : Type 0 where
+  pub tokens : List Token
+  pub has : Tokens text tokens
+  pub reads : (others : List Token) → Tokens text others → IsReadAs text others tree
+
+-- What is spelled for a tree in the form that all operations have in common is read as this tree, but for aliases, which aren't
+-- spelled, for places, and for the order of the entries of dictionaries, which are spelled by name.
+abbrev pub GenericTextsLaw : Type 0
+GenericTextsLaw = (tree : Tree) → IsReadable tree.root → ReadsBackAs (spelling forms.Generic tree) (record { aliases = []; root = as_read tree.root })
