@@ -2,6 +2,11 @@ pub mod Following
 pub mod Decimals
 pub mod Giving
 pub mod Types
+pub mod Binding
+pub mod Expressions
+pub mod Maps
+pub mod Pairs
+pub mod Fewest
 pub mod Quotes
 pub mod WordTests
 pub mod Elements
