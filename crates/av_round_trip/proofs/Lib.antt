@@ -18,5 +18,4 @@ pub mod Regions
 pub mod Nodes
 pub mod Trees
 pub mod Texts
-pub mod Wholes
 pub mod Example

@@ -28,7 +28,7 @@ use Rattle.av_round_trip.proofs.Giving.{none, join, given_as, given_row, given_l
 use Rattle.av_round_trip.proofs.Types.{given_results}
 use Rattle.av_round_trip.proofs.Quotes.{in_quotes, quoted_fits}
 use Rattle.av_round_trip.proofs.ReadNodes.{layer_as_read, as_read-is, completed-as_read}
-use Rattle.av_round_trip.proofs.Parts.{DictionaryLaws, HaveTexts, have_texts, given_named, made-is}
+use Rattle.av_round_trip.proofs.Parts.{HaveTexts, have_texts, given_named, made-is}
 use Rattle.av_round_trip.proofs.Regions.{Operations, EachBody, given_regions}
 
 -- ---- one operation
@@ -61,7 +61,7 @@ named-is node names is =
     ∙ ap (λ (found : List (List ℕ)). roll-Node (record (layer_as_read (out-Node node)) { results = found })) (reverse-reverse names ∙ sym is)
     ∙ sym (as_read-is node)
 
-module _ (laws : DictionaryLaws) {most : ℕ} (depth : ℕ) (node : Node) (h : IsWholeLine most (out-Node node)) (bodies : EachBody most depth (out-Node node).regions) where
+module _ {most : ℕ} (depth : ℕ) (node : Node) (h : IsWholeLine most (out-Node node)) (bodies : EachBody most depth (out-Node node).regions) where
   takes : HaveTexts (out-Node node).in_types
   takes = have_texts (out-Node node).in_types h.takes
 
@@ -74,8 +74,8 @@ module _ (laws : DictionaryLaws) {most : ℕ} (depth : ℕ) (node : Node) (h : I
       let read : List Body = map body_as_read (out-Node node).regions in
       let inner = given_regions depth (out-Node node).regions bodies in
       given_row (rule.Generic generic_rule.GenericForm) refl tt
-      (given_named laws (out-Node node) h takes gives read inner test.String (quoted_fits (in_quotes (out-Node node).name)))
-      (ap (λ (n : Node). Some (value.Node n ∷ [])) (made-is laws (out-Node node) h takes gives read inner))
+      (given_named (out-Node node) h takes gives read inner test.String (quoted_fits (in_quotes (out-Node node).name)))
+      (ap (λ (n : Node). Some (value.Node n ∷ [])) (made-is (out-Node node) h takes gives read inner))
 
 -- ---- operations in a row
 pub no_operation : {most : ℕ} → Gives most (Operations ∷ []) [] (value.Nodes [] ∷ [])
@@ -107,7 +107,7 @@ module _ {most : ℕ} (depth : ℕ) (node : Node) {form others : List Piece} {no
       (join (given_line depth) (join (given_results first names all) operation))
       (ap (λ (n : Node). Some (value.Nodes (nodes ++ n ∷ []) ∷ [])) is))
 
-module _ (laws : DictionaryLaws) {most : ℕ} (depth : ℕ) (node : Node) (complete : IsComplete node) (h : IsWholeLine most (out-Node node))
+module _ {most : ℕ} (depth : ℕ) (node : Node) (complete : IsComplete node) (h : IsWholeLine most (out-Node node))
     (bodies : EachBody most depth (out-Node node).regions) {others : List Piece} {nodes : List Node}
     (rest : Gives most (Operations ∷ []) others (value.Nodes nodes ∷ [])) where
   abbrev line_with : List (List ℕ) → List Piece
@@ -115,9 +115,9 @@ module _ (laws : DictionaryLaws) {most : ℕ} (depth : ℕ) (node : Node) (compl
 
   by_names : (names : List (List ℕ)) → (out-Node node).results ≡ names → Gives most (Operations ∷ []) (line_with names) (value.Nodes (nodes ++ as_read node ∷ []) ∷ [])
   unfolding results_before
-  by_names [] is = without_results depth node (given_form laws depth node h bodies) rest (completed-is node complete is)
+  by_names [] is = without_results depth node (given_form depth node h bodies) rest (completed-is node complete is)
   by_names (first ∷ names) is =
-      with_results depth node (given_form laws depth node h bodies) rest first names (subst (All IsNameOfResults) is h.makes) (named-is node (first ∷ names) is)
+      with_results depth node (given_form depth node h bodies) rest first names (subst (All IsNameOfResults) is h.makes) (named-is node (first ∷ names) is)
 
   -- one operation more
   pub given_operation : Gives most (Operations ∷ []) (node_line forms.Generic depth node ++ others) (value.Nodes (nodes ++ as_read node ∷ []) ∷ [])

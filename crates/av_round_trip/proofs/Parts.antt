@@ -33,14 +33,18 @@ use Rattle.av_round_trip.specs.Giving.{Gives}
 use Rattle.av_round_trip.specs.Types.{IsType, IsNameOfValue}
 use Rattle.av_round_trip.specs.Trees.{IsKnownType, known, IsWholeLine, PropertiesLaw, MarksLaw}
 use Rattle.av_round_trip.proofs.Giving.{join, given_as, given_row, given_spaced, given_token, given_round}
-use Rattle.av_round_trip.proofs.Types.{many_values-law, many_types-law, result_types-law}
+use Rattle.av_round_trip.proofs.Types.{many_values-law, integers-law, types-law, many_types-law, result_types-law}
+use Rattle.av_round_trip.proofs.Maps.{maps-law, sets-law}
+use Rattle.av_round_trip.proofs.Dictionaries.{properties-law, marks-law}
 use Rattle.av_round_trip.proofs.Quotes.{in_quotes, unquoted-is}
 use Rattle.av_round_trip.proofs.ReadNodes.{layer_as_read}
 
--- what dictionaries behind operations give
-pub record DictionaryLaws : Type 0 where
-  pub properties : PropertiesLaw
-  pub marks : MarksLaw
+-- ---- dictionaries behind operations
+given_properties : PropertiesLaw
+given_properties = properties-law types-law many_types-law result_types-law integers-law maps-law sets-law
+
+given_marks : MarksLaw
+given_marks = marks-law types-law many_types-law result_types-law integers-law maps-law sets-law
 
 -- ---- types that the tree has
 record HasText (type : Option TypeText) : Type 0 where
@@ -105,7 +109,7 @@ regrouped : (q v p r e : List Piece) → (((q ++ v) ++ p) ++ r) ++ e ≡ q ++ ((
 regrouped q v p r e =
     ap (λ (l : List Piece). (l ++ r) ++ e) (append_assoc q v p) ∙ ap (λ (l : List Piece). l ++ e) (append_assoc q (v ++ p) r) ∙ append_assoc q ((v ++ p) ++ r) e
 
-module _ (laws : DictionaryLaws) {most : ℕ} (x : Node-F Body Node) (h : IsWholeLine most x) (takes : HaveTexts x.in_types) (gives : HaveTexts x.out_types)
+module _ {most : ℕ} (x : Node-F Body Node) (h : IsWholeLine most x) (takes : HaveTexts x.in_types) (gives : HaveTexts x.out_types)
     {regions : List Piece} (bodies : List Body)
     (inner : Gives most (symbol.Rows (name.Generic generic_name.Regions) ∷ []) regions (value.Bodies (reverse bodies) ∷ [])) where
   abbrev parts_pieces : List Piece
@@ -119,8 +123,8 @@ module _ (laws : DictionaryLaws) {most : ℕ} (x : Node-F Body Node) (h : IsWhol
   unfolding values_in_round signature known_in_round replaced on_top
   given_parts =
       given_row (rule.Generic generic_rule.WholeGeneric) refl tt
-      (join (join (join (given_round (given_operands x.operands h.uses)) (laws.properties most x.properties h.says)) inner)
-      (join (laws.marks most x.attrs h.marked)
+      (join (join (join (given_round (given_operands x.operands h.uses)) (given_properties most x.properties h.says)) inner)
+      (join (given_marks most x.attrs h.marked)
       (join (join (join (given_spaced signs.Colon) (given_round (given_known x.in_types takes))) (given_spaced signs.Arrow)) (given_known_results x.out_types gives))))
       (ap (λ (parts : GenericParts). Some (value.Generic parts ∷ [])) (turned-twice x.operands (in_order x.properties) bodies (in_order x.attrs) takes.texts gives.texts))
 
