@@ -5,6 +5,7 @@ use Rattle.std.proofs.lemmas.List.Sums.{sum_by-append, sum_by-cons}
 use Rattle.std.specs.Prelude.{reverse, Option, Some, None, codes, if◌then◌else◌}
 use Rattle.std.specs.Option.{option_and_then}
 use Rattle.std.specs.Str.{bytes_eq}
+use Rattle.av_lex.specs.declared.token.Sign.TheVariants as signs
 use Rattle.av_tree.specs.declared.class.Class.{Class}
 use Rattle.av_tree.specs.declared.class.Class.TheVariants as class
 use Rattle.av_tree.specs.declared.table.Symbol.{Symbol}
@@ -55,7 +56,7 @@ use Rattle.av_parts.specs.rows.MapRows as parts_of
 use Rattle.av_reader.specs.Building as building
 use Rattle.av_reader.proofs.Typed.{put}
 use Rattle.av_again.specs.Making.{Word, class_of_word, Makes, nothing, by_sign, by_word, by_token, by_row}
-use Rattle.av_round_trip.specs.Expressions.{opens_round, brackets_in, FewestBracketsLaw}
+use Rattle.av_round_trip.specs.Expressions.{opens_round, brackets_in, bracket, FewestBracketsLaw, NeededBracketsLaw}
 use Rattle.av_round_trip.proofs.Pairs.{pairs, pairs-own, pairs-grow, pairs-one, pairs-name, pairs-const, pairs-neg, weight, weights, left-in_sum, left-in_product, joined-pairs}
 
 -- ---- values of symbols
@@ -63,7 +64,7 @@ use Rattle.av_round_trip.proofs.Pairs.{pairs, pairs-own, pairs-grow, pairs-one, 
 data Place : Type 0 where
   elsewhere : Place
   at : ℕ → Place
-  behind : ℕ → Place
+  after : ℕ → Place
 
 abbrev place_of : Name → Place
 place_of (name.Map maps_name.Base) = at 4
@@ -71,14 +72,14 @@ place_of (name.Map maps_name.Factor) = at 3
 place_of (name.Map maps_name.Negated) = at 3
 place_of (name.Map maps_name.Term) = at 2
 place_of (name.Map maps_name.Expression) = at 1
-place_of (name.Map maps_name.Product) = behind 2
-place_of (name.Map maps_name.Sum) = behind 1
+place_of (name.Map maps_name.Product) = after 2
+place_of (name.Map maps_name.Sum) = after 1
 place_of _ = elsewhere
 
 -- how many pairs are printed in a value there
 abbrev cost : Place → Value → ℕ
 cost (at asked) (value.Expression e) = pairs asked e.expr
-cost (behind asked) (value.Parts parts) = weights asked (reverse parts)
+cost (after asked) (value.Parts parts) = weights asked (reverse parts)
 cost _ _ = 0
 
 -- how many pairs the symbols write, and are printed in their values
@@ -305,5 +306,17 @@ written (by_row {x = x} {ws = ws} {others = others} {v = v} {parts = parts} r is
 pub fewest-brackets-law : FewestBracketsLaw
 fewest-brackets-law most e ws made =
     let all = written made in
-    let own = pairs-own 1 e in
+    let own = pairs-own 1 e.expr in
     omega arith
+
+pub needed-brackets-law : NeededBracketsLaw
+needed-brackets-law most e before inside behind is made =
+    let fewest = fewest-brackets-law most e (before ++ inside ++ behind) made in
+    let whole = ap brackets_in is in
+    let front = two_lists (before ++ bracket signs.OpenRound ∷ inside) (bracket signs.CloseRound ∷ behind) in
+    let head = two_lists before (bracket signs.OpenRound ∷ inside) in
+    let opening : brackets_in (bracket signs.OpenRound ∷ inside) ≡ 1 + brackets_in inside = one_word (bracket signs.OpenRound) inside in
+    let closing : brackets_in (bracket signs.CloseRound ∷ behind) ≡ 0 + brackets_in behind = one_word (bracket signs.CloseRound) behind in
+    let without = two_lists (before ++ inside) behind in
+    let short = two_lists before inside in
+    absurd (omega arith)

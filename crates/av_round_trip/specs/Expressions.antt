@@ -1,6 +1,9 @@
 -- Affine expressions, maps and sets that are printed and read again as themselves.
-use Rattle.std.specs.Prelude.{ℕ, ℤ, ◌≤◌, Bool, true, false, List, [], ◌∷◌, count_by}
+use Rattle.std.specs.Prelude.{ℕ, ℤ, ◌≡◌, ◌≤◌, Bool, true, false, List, [], ◌∷◌, ◌++◌, count_by}
 use Rattle.std.specs.List.{All}
+use Rattle.av_lex.specs.Spellings.{sign_text}
+use Rattle.av_lex.specs.declared.token.Kind.TheVariants as kinds
+use Rattle.av_lex.specs.declared.token.Sign.{Sign}
 use Rattle.av_lex.specs.declared.token.Sign.TheVariants as signs
 use Rattle.av_tree.specs.declared.class.Class.{Class}
 use Rattle.av_tree.specs.declared.class.Class.TheVariants as class
@@ -14,6 +17,7 @@ use Rattle.av_tree.specs.declared.written.RowText.{RowText}
 use Rattle.av_tree.specs.declared.written.SetText.{SetText}
 use Rattle.av_printer.specs.Pieces.{plain}
 use Rattle.av_printer.specs.Expressions.{expression, map_pieces, set_pieces}
+use Rattle.av_values.specs.declared.value.Expression.{Expression}
 use Rattle.av_values.specs.declared.value.Value.TheVariants as value
 use Rattle.av_written.specs.Spacing.{words_of}
 use Rattle.av_written.specs.ReadExpressions.{IsShortInteger}
@@ -53,11 +57,21 @@ opens_round _ = false
 abbrev pub brackets_in : List Word → ℕ
 brackets_in words = count_by (λ (word : Word). opens_round (class_of_word word)) words
 
--- Each pair of brackets is needed: no words that the rows make the same expression of have fewer of them.
+-- No words that the rows make an expression of have fewer brackets than are printed.
 abbrev pub FewestBracketsLaw : Type 0
-FewestBracketsLaw = (most : ℕ) (e : ExprText) (ws : List Word)
-    → Makes most (symbol.Rows (name.Map maps_name.Expression) ∷ []) ws (value.Expression (record { expr = e; leaves = [] }) ∷ [])
-    → brackets_in (words_of (expression plain e)) ≤ brackets_in ws
+FewestBracketsLaw = (most : ℕ) (e : Expression) (ws : List Word)
+    → Makes most (symbol.Rows (name.Map maps_name.Expression) ∷ []) ws (value.Expression e ∷ [])
+    → brackets_in (words_of (expression plain e.expr)) ≤ brackets_in ws
+
+-- a bracket as a word
+abbrev pub bracket : Sign → Word
+bracket s = (kinds.Sign s, sign_text s)
+
+-- Each pair of brackets is needed: the words without them aren't read as the same expression.
+abbrev pub NeededBracketsLaw : Type 0
+NeededBracketsLaw = (most : ℕ) (e : Expression) (before inside behind : List Word)
+    → words_of (expression plain e.expr) ≡ before ++ bracket signs.OpenRound ∷ inside ++ bracket signs.CloseRound ∷ behind
+    → ¬ Makes most (symbol.Rows (name.Map maps_name.Expression) ∷ []) (before ++ inside ++ behind) (value.Expression e ∷ [])
 
 abbrev pub IsMap : ℕ → MapText → Type 0
 IsMap most m = All (IsExpression most) m.results
