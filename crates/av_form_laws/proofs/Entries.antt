@@ -1,6 +1,6 @@
 -- What is in an entry that is made.
 use Rattle.std.proofs.Common.{◌≡◌, ℕ, List, [], ◌∷◌, ap, sym, ◌∙◌}
-use Rattle.std.specs.Prelude.{ℤ}
+use Rattle.std.specs.Prelude.{ℤ, pos}
 use Rattle.av_tree.specs.declared.attribute.Attr.{Attr, Attr-F, out-Attr, out-roll-Attr}
 use Rattle.av_tree.specs.declared.attribute.Attr.TheVariants as attr
 use Rattle.av_tree.specs.declared.attribute.Attr.TheOpen as open_attr
@@ -10,10 +10,11 @@ use Rattle.av_tree.specs.declared.written.SetText.{SetText}
 use Rattle.av_tree.specs.declared.written.TypeText.{TypeText}
 use Rattle.av_tree.specs.declared.written.TypeText.TheVariants as types
 use Rattle.std.specs.Prelude.{codes}
+use Rattle.av_values.specs.Loops.{index_type, step}
 use Rattle.av_values.specs.Nodes.{entry}
 use Rattle.av_form_laws.specs.Attributes.{Applied, alias, applied_attr, applied_in, first_applied, written_map, written_set}
 use Rattle.av_form_laws.specs.Items.{applied_entry}
-use Rattle.av_form_laws.specs.Loops.{sizes_entry}
+use Rattle.av_form_laws.specs.Loops.{first_step, sizes_entry, step_entry, step_in}
 use Rattle.av_form_laws.specs.Properties.{first_numbers, numbers_in}
 
 pub value-of : (name : List ℕ) (x : Attr) → (out-Named (entry name x)).value ≡ x
@@ -25,16 +26,16 @@ out-number z t = ap out-Attr (sym (attr.rolls-Number z t)) ∙ out-roll-Attr (op
 pub out-hash : (name : List ℕ) (words : List (List ℕ)) → out-Attr (attr.Hash name words) ≡ open_attr.Hash name words
 out-hash name words = ap out-Attr (sym (attr.rolls-Hash name words)) ∙ out-roll-Attr (open_attr.Hash name words)
 
-out-array : (t : TypeText) (numbers : List ℤ) → out-Attr (attr.Array t numbers) ≡ open_attr.Array t numbers
+pub out-array : (t : TypeText) (numbers : List ℤ) → out-Attr (attr.Array t numbers) ≡ open_attr.Array t numbers
 out-array t numbers = ap out-Attr (sym (attr.rolls-Array t numbers)) ∙ out-roll-Attr (open_attr.Array t numbers)
 
-out-map : (m : MapText) → out-Attr (attr.Map m) ≡ open_attr.Map m
+pub out-map : (m : MapText) → out-Attr (attr.Map m) ≡ open_attr.Map m
 out-map m = ap out-Attr (sym (attr.rolls-Map m)) ∙ out-roll-Attr (open_attr.Map m)
 
-out-set : (s : SetText) → out-Attr (attr.Set s) ≡ open_attr.Set s
+pub out-set : (s : SetText) → out-Attr (attr.Set s) ≡ open_attr.Set s
 out-set s = ap out-Attr (sym (attr.rolls-Set s)) ∙ out-roll-Attr (open_attr.Set s)
 
-out-alias : (name : List ℕ) → out-Attr (attr.AliasUse name) ≡ open_attr.AliasUse name
+pub out-alias : (name : List ℕ) → out-Attr (attr.AliasUse name) ≡ open_attr.AliasUse name
 out-alias name = ap out-Attr (sym (attr.rolls-AliasUse name)) ∙ out-roll-Attr (open_attr.AliasUse name)
 
 applied-is : (a : Applied) → applied_in (out-Attr (applied_attr a)) ≡ a
@@ -49,3 +50,6 @@ pub sizes-first : (numbers : List ℤ) (es : List Named) → first_numbers (size
 sizes-first numbers es =
     ap (λ x. numbers_in (out-Attr x)) (value-of (codes "operandSegmentSizes") (attr.Array (types.Scalar (codes "i32")) numbers))
     ∙ ap numbers_in (out-array (types.Scalar (codes "i32")) numbers)
+
+pub step-first : (s : ℕ) (es : List Named) → first_step (step_entry s ∷ es) ≡ s
+step-first s es = ap (λ x. step_in (out-Attr x)) (value-of (codes "step") (step (pos s))) ∙ ap step_in (out-number (pos s) index_type)

@@ -14,6 +14,7 @@ use Rattle.av_dialects.specs.declared.item.Key.TheVariants as key
 use Rattle.av_dialects.specs.Rows.{predicates}
 use Rattle.av_form_laws.specs.Examples.{CastExamples, LineExamples, MarkExamples, OperandExamples, TypedExamples, WordsFit}
 use Rattle.av_form_laws.specs.Lines.{Line}
+use Rattle.av_form_laws.proofs.LoopExamples.{access-examples, bound-examples, carried-examples, else-examples, region-examples, result-examples, step-examples}
 use Rattle.av_form_laws.proofs.Entries.{out-hash, out-number, value-of}
 use Rattle.av_values.specs.Nodes.{entry}
 use Rattle.av_form_laws.specs.Properties.{first_word, is_word_of, long, place_in, word_at, word_entry, word_in}
@@ -83,4 +84,17 @@ words-fit : WordsFit
 words-fit k word h i n = (word-fits k word h n.properties, word-fits k word h n.properties)
 
 pub line-examples : LineExamples
-line-examples = (cast-examples, operand-examples, typed-examples, mark-examples, words-fit)
+line-examples = (
+  cast-examples,
+  operand-examples,
+  typed-examples,
+  mark-examples,
+  region-examples,
+  else-examples,
+  step-examples,
+  bound-examples,
+  carried-examples,
+  result-examples,
+  access-examples,
+  words-fit,
+)

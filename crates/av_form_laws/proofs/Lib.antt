@@ -3,6 +3,7 @@ pub mod Examples
 pub mod Forms
 pub mod Given
 pub mod Lenses
+pub mod LoopExamples
 pub mod Printed
 pub mod Reading
 pub mod Regions
