@@ -1,7 +1,7 @@
 -- What is in an entry that is made.
-use Rattle.std.proofs.Common.{◌≡◌, ℕ, List, [], ◌∷◌, ap, sym, ◌∙◌}
+use Rattle.std.proofs.Common.{◌≡◌, ℕ, List, ◌∷◌, ap, sym, ◌∙◌}
 use Rattle.std.specs.Prelude.{ℤ, pos}
-use Rattle.av_tree.specs.declared.attribute.Attr.{Attr, Attr-F, out-Attr, out-roll-Attr}
+use Rattle.av_tree.specs.declared.attribute.Attr.{Attr, out-Attr, out-roll-Attr}
 use Rattle.av_tree.specs.declared.attribute.Attr.TheVariants as attr
 use Rattle.av_tree.specs.declared.attribute.Attr.TheOpen as open_attr
 use Rattle.av_tree.specs.declared.attribute.Named.{Named, Named-F, out-Named, out-roll-Named}

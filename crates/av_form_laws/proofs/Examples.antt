@@ -1,14 +1,12 @@
 -- Operations that fit forms, and others that don't, worked out.
-use Rattle.std.proofs.Common.{◌≡◌, ℕ, Bool, true, false, ◌&&◌, ◌||◌, suc, List, [], ◌∷◌, Option, None, Some, refl, ap, sym, subst, ◌∙◌, if◌then◌else◌}
-use Rattle.std.specs.Prelude.{ℤ, codes, pos}
+use Rattle.std.proofs.Common.{◌≡◌, ℕ, Bool, true, false, ◌&&◌, ◌||◌, suc, List, [], ◌∷◌, None, Some, refl, ap, sym, subst, ◌∙◌, if◌then◌else◌}
+use Rattle.std.specs.Prelude.{codes, pos}
 use Rattle.std.specs.List.{list_any}
 use Rattle.std.specs.Str.{bytes_eq}
 use Rattle.std.proofs.lemmas.Slice.Eq.{bytes_eq-Decides}
-use Rattle.av_tree.specs.declared.attribute.Attr.{Attr, Attr-F, out-Attr, out-roll-Attr}
+use Rattle.av_tree.specs.declared.attribute.Attr.{out-Attr}
 use Rattle.av_tree.specs.declared.attribute.Attr.TheVariants as attr
-use Rattle.av_tree.specs.declared.attribute.Attr.TheOpen as open_attr
-use Rattle.av_tree.specs.declared.attribute.Named.{Named, Named-F, out-Named, out-roll-Named}
-use Rattle.av_tree.specs.declared.written.TypeText.{TypeText}
+use Rattle.av_tree.specs.declared.attribute.Named.{Named}
 use Rattle.av_dialects.specs.declared.item.Key.{Key}
 use Rattle.av_dialects.specs.declared.item.Key.TheVariants as key
 use Rattle.av_dialects.specs.Rows.{predicates}
@@ -16,7 +14,6 @@ use Rattle.av_form_laws.specs.Examples.{CastExamples, LineExamples, MarkExamples
 use Rattle.av_form_laws.specs.Lines.{Line}
 use Rattle.av_form_laws.proofs.LoopExamples.{access-examples, bound-examples, carried-examples, else-examples, region-examples, result-examples, step-examples}
 use Rattle.av_form_laws.proofs.Entries.{out-hash, out-number, value-of}
-use Rattle.av_values.specs.Nodes.{entry}
 use Rattle.av_form_laws.specs.Properties.{first_word, is_word_of, long, place_in, word_at, word_entry, word_in}
 
 cast-examples : CastExamples

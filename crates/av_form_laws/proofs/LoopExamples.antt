@@ -1,10 +1,10 @@
 -- Parts of loops and branches, and subscripts, that fit, and others that don't, worked out.
-use Rattle.std.proofs.Common.{◌≡◌, ℕ, Bool, true, false, ◌&&◌, List, [], ◌∷◌, ◌++◌, drop, Option, None, Some, refl, ap, sym, subst, ◌∙◌}
+use Rattle.std.proofs.Common.{◌≡◌, ℕ, Bool, true, false, ◌&&◌, List, [], ◌∷◌, ◌++◌, drop, None, Some, refl, ap, sym, subst, ◌∙◌}
 use Rattle.std.specs.Fmt.{digits}
 use Rattle.std.specs.Str.{bytes_eq}
-use Rattle.std.specs.Prelude.{ℤ, codes, pos}
-use Rattle.av_tree.specs.declared.attribute.Named.{Named, out-roll-Named}
-use Rattle.av_tree.specs.declared.node.Body.{Body, Body-F, out-Body, out-roll-Body, roll-Body}
+use Rattle.std.specs.Prelude.{ℤ, codes}
+use Rattle.av_tree.specs.declared.attribute.Named.{Named}
+use Rattle.av_tree.specs.declared.node.Body.{Body, Body-F, out-roll-Body, roll-Body}
 use Rattle.av_tree.specs.declared.node.BodyArg.{BodyArg}
 use Rattle.av_tree.specs.declared.node.Node.{Node, out-roll-Node}
 use Rattle.av_tree.specs.declared.written.ExprText.{ExprText}
@@ -22,12 +22,12 @@ use Rattle.av_form_laws.specs.Examples.{AccessExamples, BoundExamples, CarriedEx
 use Rattle.av_form_laws.specs.Attributes.{Applied, first_applied, written_map}
 use Rattle.av_form_laws.specs.Items.{AreWanted, HasRegion, applied_entry, is_wanted, with_last}
 use Rattle.av_form_laws.specs.Lines.{Line, all_written, first_text}
-use Rattle.av_form_laws.specs.Loops.{args_in, args_of, end_of, first_name, inits_of, nodes_in, paired, region_of, step_entry, types_of, with_args_in, written_in}
+use Rattle.av_form_laws.specs.Loops.{args_in, args_of, end_of, first_name, inits_of, nodes_in, paired, step_entry, types_of, with_args_in, written_in}
 use Rattle.av_form_laws.specs.Properties.{first_numbers}
 use Rattle.av_form_laws.specs.Subscripts.{map_in, numbered_map, numbered_values, subscripts_of, with_leaves}
 use Rattle.av_form_laws.specs.Grammar.{else_words, in_square, iter_words, step_words}
 use Rattle.av_form_laws.specs.Rows.{FitsRow, words_of}
-use Rattle.av_form_laws.specs.Words.{Word, between_commas, region, single, subscript, value, variable}
+use Rattle.av_form_laws.specs.Words.{between_commas, region, single, subscript, value, variable}
 use Rattle.av_form_laws.proofs.Entries.{first-applied, out-array, out-map, step-first}
 
 -- ---- regions

@@ -2,15 +2,14 @@
 use Rattle.std.proofs.Common.{◌≡◌, ℕ, List, [], ◌∷◌, ◌++◌, append_assoc, length, map, Option, None, Some, refl, reverse, ap, sym, ◌∙◌}
 use Rattle.std.proofs.lemmas.List.{append-nil, length-map, map-append, reverse-reverse}
 use Rattle.std.specs.Prelude.{ℤ, codes, pos}
-use Rattle.av_tree.specs.declared.attribute.Attr.TheVariants as attr
 use Rattle.av_tree.specs.declared.attribute.Named.{Named}
-use Rattle.av_tree.specs.declared.node.Node.{Node, Node-F, out-Node, out-roll-Node, roll-Node}
+use Rattle.av_tree.specs.declared.node.Node.{Node, out-roll-Node, roll-Node}
 use Rattle.av_tree.specs.declared.node.Body.{Body, Body-F, out-roll-Body, roll-Body}
 use Rattle.av_tree.specs.declared.node.BodyArg.{BodyArg}
 use Rattle.av_tree.specs.declared.written.TypeText.{TypeText}
-use Rattle.av_values.specs.Forms.{branch_of, counted_loop_of, map_operation_of}
-use Rattle.av_values.specs.Loops.{carried_lists, counter, segments, step, terminated, ended, with_carried, with_pair, with_pairs}
-use Rattle.av_values.specs.Nodes.{entry, plain, with_attrs, with_body, with_operand, with_operands, with_property, with_result, with_results}
+use Rattle.av_values.specs.Forms.{branch_of, counted_loop_of}
+use Rattle.av_values.specs.Loops.{carried_lists, counter, step, terminated, ended, with_carried, with_pair, with_pairs}
+use Rattle.av_values.specs.Nodes.{entry, plain, with_body, with_operands, with_property, with_results}
 use Rattle.av_values.specs.Operations.{load_of, loop_of, store_of, with_buffer, with_region, with_unwritten_result}
 use Rattle.av_values.specs.Accesses.{numbering}
 use Rattle.av_values.specs.declared.loops.CarriedLists.{CarriedLists}
@@ -20,7 +19,6 @@ use Rattle.av_values.specs.declared.value.MapUse.{MapUse}
 use Rattle.av_dialects.specs.declared.item.Results.TheVariants as results_of
 use Rattle.av_dialects.specs.declared.item.Typing.TheVariants as typing
 use Rattle.av_dialects.specs.Rows.{forms, names, results}
-use Rattle.av_form_laws.specs.Attributes.{Applied}
 use Rattle.av_form_laws.specs.Items.{applied_entry, with_last}
 use Rattle.av_form_laws.specs.Lines.{Line, all_written, unwritten}
 use Rattle.av_form_laws.specs.Loops.{Carrying, args_in, args_of, inits_of, region_of, sizes_entry, types_of, with_args_in}

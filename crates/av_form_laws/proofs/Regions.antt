@@ -1,6 +1,6 @@
 -- Arguments of a region that are taken and put back, and lists that are split from behind.
-use Rattle.std.proofs.Common.{arith, ◌≡◌, ℕ, ◌+◌, ◌-◌, List, [], ◌∷◌, ◌++◌, length, take, drop, map, Option, refl, ap, sym, ◌∙◌}
-use Rattle.std.proofs.lemmas.List.{length-append, length-map, take_at, drop_at}
+use Rattle.std.proofs.Common.{arith, ◌≡◌, ℕ, ◌+◌, ◌-◌, List, [], ◌∷◌, ◌++◌, length, take, drop, Option, refl, ap, sym, ◌∙◌}
+use Rattle.std.proofs.lemmas.List.{length-append, take_at, drop_at}
 use Rattle.av_tree.specs.declared.attribute.Named.{Named}
 use Rattle.av_tree.specs.declared.node.Body.{Body, Body-F, out-Body, out-roll-Body, roll-Body, roll-out-Body}
 use Rattle.av_tree.specs.declared.node.BodyArg.{BodyArg}

@@ -28,7 +28,7 @@ use Rattle.av_form_laws.specs.Loops.{number_map, sizes_entry, step_entry, value_
 use Rattle.av_form_laws.specs.Subscripts.{leaf}
 use Rattle.av_form_laws.specs.Properties.{is_word_of}
 use Rattle.av_form_laws.specs.Rows.{FitsRow, words_of}
-use Rattle.av_form_laws.specs.Words.{Word, comma, number, of_type, plain as plain_word, region, sign, subscript, value, variable}
+use Rattle.av_form_laws.specs.Words.{comma, number, of_type, plain as plain_word, region, sign, subscript, value, variable}
 
 -- an operation of these operands and types
 abbrev pub line : List (List ℕ) → List (Option TypeText) → List (Option TypeText) → Line
