@@ -9,3 +9,4 @@ pub mod Reading
 pub mod Regions
 pub mod Subscripts
 pub mod Tables
+pub mod WholeLoop

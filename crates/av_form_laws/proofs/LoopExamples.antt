@@ -31,22 +31,22 @@ use Rattle.av_form_laws.specs.Words.{between_commas, region, single, subscript, 
 use Rattle.av_form_laws.proofs.Entries.{first-applied, out-array, out-map, step-first}
 
 -- ---- regions
-abbrev yield : List ℕ
+abbrev pub yield : List ℕ
 yield = codes "affine.yield"
 
-args-are : (args : List BodyArg) (nodes : List Node) (bodies : List Body) → args_in (body args nodes ∷ bodies) ≡ args
+pub args-are : (args : List BodyArg) (nodes : List Node) (bodies : List Body) → args_in (body args nodes ∷ bodies) ≡ args
 args-are args nodes bodies = ap (λ (b : Body-F Body Node). b.args) (out-roll-Body (record { args = args; nodes = nodes }))
 
-nodes-are : (args : List BodyArg) (nodes : List Node) (bodies : List Body) → nodes_in (body args nodes ∷ bodies) ≡ nodes
+pub nodes-are : (args : List BodyArg) (nodes : List Node) (bodies : List Body) → nodes_in (body args nodes ∷ bodies) ≡ nodes
 nodes-are args nodes bodies = ap (λ (b : Body-F Body Node). b.nodes) (out-roll-Body (record { args = args; nodes = nodes }))
 
-others-are : (args others : List BodyArg) (nodes : List Node) (bodies : List Body)
+pub others-are : (args others : List BodyArg) (nodes : List Node) (bodies : List Body)
     → with_args_in others (body args nodes ∷ bodies) ≡ body others nodes ∷ bodies
 others-are args others nodes bodies =
     ap (λ (b : Body-F Body Node). roll-Body (record b { args = others }) ∷ bodies) (out-roll-Body (record { args = args; nodes = nodes }))
 
 -- a region without arguments, and one that ends so
-region-is : (nodes : List Node) (bodies : List Body) → ended yield (written_in yield nodes) ≡ nodes → HasRegion (around (body [] nodes ∷ bodies))
+pub region-is : (nodes : List Node) (bodies : List Body) → ended yield (written_in yield nodes) ≡ nodes → HasRegion (around (body [] nodes ∷ bodies))
 region-is nodes bodies h =
     ap (λ ns. roll-Body (record { args = []; nodes = ns }) ∷ bodies) (sym h ∙ ap (λ ns. ended yield (written_in yield ns)) (sym (nodes-are [] nodes bodies)))
 
@@ -56,7 +56,7 @@ region-args n h = ap args_in h ∙ args-are [] _ (drop 1 n.regions)
 region-nodes : (n : Line) → HasRegion n → nodes_in n.regions ≡ ended (end_of n.name) (written_in (end_of n.name) (nodes_in n.regions))
 region-nodes n h = ap nodes_in h ∙ nodes-are [] _ (drop 1 n.regions)
 
-end-stays : ended yield (written_in yield (end ∷ [])) ≡ end ∷ []
+pub end-stays : ended yield (written_in yield (end ∷ [])) ≡ end ∷ []
 unfolding ended plain
 end-stays = simp out-roll-Node refl
 
@@ -64,7 +64,7 @@ end-put-in : ended yield (written_in yield (end_put_in ∷ [])) ≡ end_put_in �
 unfolding ended plain
 end-put-in = simp out-roll-Node refl
 
-written-end : written_in yield (end ∷ []) ≡ end ∷ []
+pub written-end : written_in yield (end ∷ []) ≡ end ∷ []
 unfolding plain
 written-end = simp out-roll-Node refl
 
@@ -154,9 +154,9 @@ step-examples = (
 
 pub bound-examples : BoundExamples
 bound-examples = (
-  ((simp (out-map, out-array) refl, simp (out-map, out-array) refl), ((simp (out-map, out-array) refl, simp (out-map, out-array) refl), simp out-array refl)),
+  ((simp out-map refl, simp (out-map, out-array) refl), ((simp out-map refl, simp (out-map, out-array) refl), simp out-array refl)),
   simp (out-map, out-array) refl,
-  (λ h. let d = simp (out-map, out-array) at (ap {A = List Named} {B = List ℤ} (λ es. first_numbers (drop 1 es)) h.1.0.1) in cc),
+  (λ h. let d = simp out-array at (ap {A = List Named} {B = List ℤ} (λ es. first_numbers (drop 1 es)) h.1.0.1) in cc),
   (λ h. let d = simp (out-map, out-array) at (ap {A = List Named} {B = List ℤ} (λ es. first_numbers (drop 1 es)) h.0.1) in cc),
 )
 

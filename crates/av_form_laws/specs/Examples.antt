@@ -25,10 +25,11 @@ use Rattle.av_form_laws.specs.Attributes.{written_map}
 use Rattle.av_form_laws.specs.Items.{Fits, IsWanted, applied_entry, give}
 use Rattle.av_form_laws.specs.Lines.{Line, unwritten}
 use Rattle.av_form_laws.specs.Loops.{number_map, sizes_entry, step_entry, value_map}
+use Rattle.av_form_laws.specs.Reading.{loop_form}
 use Rattle.av_form_laws.specs.Subscripts.{leaf}
 use Rattle.av_form_laws.specs.Properties.{is_word_of}
 use Rattle.av_form_laws.specs.Rows.{FitsRow, words_of}
-use Rattle.av_form_laws.specs.Words.{comma, number, of_type, plain as plain_word, region, sign, subscript, value, variable}
+use Rattle.av_form_laws.specs.Words.{Word, comma, entries, number, of_type, plain as plain_word, region, sign, subscript, value, variable}
 
 -- an operation of these operands and types
 abbrev pub line : List (List ℕ) → List (Option TypeText) → List (Option TypeText) → Line
@@ -243,6 +244,33 @@ AccessExamples =
     × ¬ FitsRow results.Zero accessing (access_line (codes "d1" ∷ []) (less_one (codes "d1") ∷ expr.Name (codes "s0") ∷ []))
     × ¬ FitsRow results.Zero accessing (access_line (codes "d0" ∷ []) (expr.Name (codes "s0") ∷ []))
 
+-- ---- a whole loop
+-- `%a = 0 to %b step 2 iter_args(%d = %c) -> (T) {..} {..}`
+abbrev pub whole_loop : TypeText → Named → Line
+whole_loop t e = record {
+  name = codes "affine.for";
+  place = 3;
+  results = codes "%r" ∷ [];
+  operands = b ∷ c ∷ [];
+  properties = applied_entry (codes "lowerBoundMap") (number_map (pos 0)) ∷ applied_entry (codes "upperBoundMap") value_map
+      ∷ step_entry 2 ∷ sizes_entry (pos 0 ∷ pos 1 ∷ pos 1 ∷ []) ∷ [];
+  attrs = e ∷ [];
+  regions = body (counter a ∷ typed_arg (codes "%d") t ∷ []) (end ∷ []) ∷ [];
+  in_types = None ∷ Some t ∷ [];
+  out_types = Some t ∷ [];
+}
+
+abbrev pub loop_words : TypeText → Named → List Word
+loop_words t e =
+    variable a ∷ sign signs.Equal ∷ number (pos 0) ∷ plain_word (codes "to") ∷ value b ∷ plain_word (codes "step") ∷ number (pos 2)
+    ∷ plain_word (codes "iter_args") ∷ sign signs.OpenRound ∷ variable (codes "%d") ∷ sign signs.Equal ∷ value c ∷ sign signs.CloseRound
+    ∷ sign signs.Arrow ∷ sign signs.OpenRound ∷ of_type t ∷ sign signs.CloseRound ∷ region (end ∷ []) ∷ entries (e ∷ []) ∷ []
+
+abbrev pub LoopExamples : Type 0
+LoopExamples = (t : TypeText) (e : Named) → IsWanted wanted.Any t
+    → FitsRow results.Several loop_form (whole_loop t e)
+    × (words_of loop_form (whole_loop t e) ≡ loop_words t e)
+
 -- ---- words
 -- each word that a property may have gives a property that fits
 abbrev pub WordsFit : Type 0
@@ -252,4 +280,4 @@ WordsFit = (key : Key) (word : List ℕ) → is_word_of key word ≡ true → (k
 abbrev pub LineExamples : Type 0
 LineExamples =
     CastExamples × OperandExamples × TypedExamples × MarkExamples × RegionExamples × ElseExamples × StepExamples × BoundExamples × CarriedExamples
-    × ResultExamples × AccessExamples × WordsFit
+    × ResultExamples × AccessExamples × LoopExamples × WordsFit
