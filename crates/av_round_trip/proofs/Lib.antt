@@ -9,9 +9,14 @@ pub mod Maps
 pub mod Pairs
 pub mod Fewest
 pub mod Quotes
+pub mod WordTests
+pub mod Elements
+pub mod Attributes
+pub mod Dictionaries
 pub mod ReadNodes
 pub mod Parts
 pub mod Regions
 pub mod Nodes
 pub mod Trees
 pub mod Texts
+pub mod Example
