@@ -48,8 +48,9 @@ use Rattle.av_round_trip.specs.Expressions.{IsMap, IsSet, MapsLaw, SetsLaw}
 use Rattle.av_round_trip.specs.Attributes as part
 use Rattle.av_round_trip.specs.Attributes.{IsElement, IsAttribute, AreAttributes, IsEntryValue, AreEntries, AttributesLaw, no_attributes, one_attribute_more, no_entries, one_entry_more}
 use Rattle.av_round_trip.proofs.Giving.{none, join, given_as, given_row, given_sign, given_spaced, given_word, given_token, given_colon, given_round, given_square, given_curly, reverse-first, Every, every-all, ListRows, given_behind, given_commas}
+use Rattle.av_round_trip.proofs.Expressions.{word-fits}
 use Rattle.av_round_trip.proofs.Quotes.{in_quotes, unquoted-is, quoted_fits}
-use Rattle.av_round_trip.proofs.WordTests.{fits_word, by_name, by_hash, class-function_type, class-array, class-dense}
+use Rattle.av_round_trip.proofs.WordTests.{by_name, by_hash, class-function_type, class-array, class-dense}
 use Rattle.av_round_trip.proofs.Elements.{is_true-word, given_truth, given_element}
 
 -- ---- words and texts
@@ -72,7 +73,7 @@ an_entry = rows_of attributes_name.Entry
 
 each_word : (most : ℕ) (words : List (List ℕ)) → Every most (symbol.Token test.Word ∷ []) plain (λ (bytes : List ℕ). value.Text bytes ∷ []) words
 each_word most [] = tt
-each_word most (word ∷ words) = (given_token test.Word kinds.Word word (fits_word word), each_word most words)
+each_word most (word ∷ words) = (given_token test.Word kinds.Word word (word-fits word), each_word most words)
 
 module _ {most : ℕ} where
   given_truth_attribute : (b : Bool) → Gives most an_attribute (truth b) (value.Attr (attr.Bool b) ∷ [])

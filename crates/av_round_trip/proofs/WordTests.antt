@@ -1,7 +1,7 @@
--- The tests that texts of words fit.
+-- The tests that words fit, and names behind `#`, by their texts.
 use Rattle.std.proofs.Common.{◌≡◌, ℕ, Bool, true, false, List, [], ◌∷◌, refl, sym, ap, ◌∙◌, subst}
 use Rattle.std.proofs.lemmas.Slice.Eq.{bytes_eq-Decides}
-use Rattle.std.specs.Prelude.{◌||◌, if◌then◌else◌, IsTrue, Option, Some, None, codes}
+use Rattle.std.specs.Prelude.{◌||◌, if◌then◌else◌, IsTrue, Option, Some, codes}
 use Rattle.std.specs.List.{list_all}
 use Rattle.std.specs.Str.{bytes_eq}
 use Rattle.std.specs.Char.{is_ascii_digit}
@@ -11,19 +11,11 @@ use Rattle.av_tree.specs.declared.class.Class.TheVariants as class
 use Rattle.av_tree.specs.declared.class.Keyword.{Keyword}
 use Rattle.av_tree.specs.declared.class.Keyword.TheVariants as key
 use Rattle.av_tree.specs.declared.table.Test.TheVariants as test
-use Rattle.av_tree.specs.Classes.{fits_of, is_word, is_entry_name}
-use Rattle.av_derive.specs.ClassOf.{keywords, keyword_of, found_in, is_scalar, class_of_keyword, spells_word}
+use Rattle.av_tree.specs.Classes.{fits_of, is_entry_name}
+use Rattle.av_derive.specs.ClassOf.{keywords, found_in, is_scalar, class_of_keyword, spells_word}
 use Rattle.av_written.proofs.ExprParts.{either}
 use Rattle.av_again.proofs.Signs.{both}
 use Rattle.av_again.specs.Making.{class_of_word}
-
--- ---- any word
-word_class : (found : Option Keyword) (text : List ℕ) → IsTrue (is_word (class_of_keyword found text))
-word_class (Some keyword) text = refl
-word_class None text = either (λ (c : Class). IsTrue (is_word c)) (is_scalar text) class.Scalar class.OtherWord (λ b. refl) (λ b. refl)
-
-pub fits_word : (text : List ℕ) → IsTrue (fits_of test.Word (class_of_word (kinds.Word, text)))
-fits_word text = word_class (keyword_of text) text
 
 -- ---- any word but `function_type`
 abbrev function_type : List ℕ
