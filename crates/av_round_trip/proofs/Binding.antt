@@ -21,7 +21,7 @@ use Rattle.av_values.specs.Expressions.{calculation, division_of, with_part, joi
 use Rattle.av_written.specs.ReadExpressions.{IsShortInteger}
 use Rattle.av_again.specs.Making.{class_of_word}
 use Rattle.av_round_trip.specs.Giving.{Gives}
-use Rattle.av_round_trip.specs.Expressions.{HasShortNumbers, named, number as numbered, negation, sum, difference, product, remainder, floored, ceiled}
+use Rattle.av_round_trip.specs.Expressions.{IsLegible, named, number as numbered, negation, sum, difference, product, remainder, floored, ceiled}
 use Rattle.av_round_trip.proofs.Giving.{join, given_as, ended}
 
 -- ---- a first item and parts behind it
@@ -86,13 +86,13 @@ module _ {most : ℕ} {item more : Symbol} where
 
 -- ---- rows of expressions
 -- names of rows of expressions, and what the rows make; an expression that is printed is read as another value, as names may stand for values
-pub record ExpressionRows (most : ℕ) (spell : List ℕ → List Piece) (read : ExprText → Expression) : Type 0 where
+pub record ExpressionRows (most : ℕ) (IsName : List ℕ → Type 0) (spell : List ℕ → List Piece) (read : ExprText → Expression) : Type 0 where
   pub base : Symbol
   pub factor : Symbol
   pub more_factors : Symbol
   pub term : Symbol
   pub more_terms : Symbol
-  pub parameter : (text : List ℕ) → One most base (spell text) (read (Name text))
+  pub parameter : (text : List ℕ) → IsName text → One most base (spell text) (read (Name text))
   pub in_brackets : {ps : List Piece} {first : Expression} {parts : List Part} → Several most term more_terms ps first parts
       → One most base (in_round ps) (joined_left first (reverse parts))
   pub constant : (z : ℤ) → IsShortInteger z → One most factor (number z) (read (Const z))
@@ -113,7 +113,7 @@ pub record ExpressionRows (most : ℕ) (spell : List ℕ → List Piece) (read :
       → Others most more_terms (spaced (sign signs.Minus) ++ ps) (parts ++ record { operator = operator.Sub; right = right } ∷ [])
   pub calculated : (o : Operator) (a b : ExprText) → with_part (read a) (record { operator = o; right = read b }) ≡ read (calculation o a b)
 
-module _ {most : ℕ} {spell : List ℕ → List Piece} {read : ExprText → Expression} (rows : ExpressionRows most spell read) where
+module _ {most : ℕ} {IsName : List ℕ → Type 0} {spell : List ℕ → List Piece} {read : ExprText → Expression} (rows : ExpressionRows most IsName spell read) where
   -- pieces that bind so tightly are read as the expression
   pub data Binds : Printed → Expression → Type 0 where
     as_base : {ps : List Piece} {e : Expression} → One most rows.base ps e → Binds (record { strength = 4; pieces = ps }) e
@@ -193,9 +193,9 @@ module _ {most : ℕ} {spell : List ℕ → List Piece} {read : ExprText → Exp
   divided_binds a b word fits h k = product_binds (plain word) {part = record { operator = division_of word; right = read b }} h k
       (λ behind last several. rows.divided word fits several)
 
-  pub binds : (e : ExprText) → HasShortNumbers e → Binds (part_of spell e) (read e)
+  pub binds : (e : ExprText) → IsLegible IsName e → Binds (part_of spell e) (read e)
   unfolding keywords
-  binds _ (named text) = binds_as (of-name spell text) refl (as_base (rows.parameter text))
+  binds _ (named text is) = binds_as (of-name spell text) refl (as_base (rows.parameter text is))
   binds _ (numbered z h) = binds_as (of-const spell z) refl (as_factor (rows.constant z h))
   binds _ (negation a h) = binds_as (of-neg spell a) refl (as_factor (rows.negated a (behind_minus (binds a h))))
   binds _ (sum a b h k) =

@@ -1,7 +1,6 @@
 -- The expressions of maps and sets are read as they are printed.
 use Rattle.std.proofs.Common.{◌≡◌, ℕ, suc, ℤ, pos, negsuc, Bool, true, false, List, [], ◌∷◌, ◌++◌, refl, ap, arith, IsTrue, Option, Some, None, inl, inr}
-use Rattle.std.specs.Prelude.{◌⊎◌, ◌==◌, if◌then◌else◌, decimal, reverse}
-use Rattle.std.specs.List.{list_all}
+use Rattle.std.specs.Prelude.{◌⊎◌, if◌then◌else◌, decimal, reverse}
 use Rattle.av_lex.specs.declared.token.Kind.TheVariants as kinds
 use Rattle.av_lex.specs.declared.token.Sign.TheVariants as signs
 use Rattle.av_tree.specs.declared.class.Class.{Class}
@@ -32,6 +31,7 @@ use Rattle.av_written.specs.ReadExpressions.{IsShortInteger}
 use Rattle.av_again.specs.Making.{class_of_word}
 use Rattle.av_round_trip.specs.Expressions.{IsExpression, ExpressionsLaw}
 use Rattle.av_round_trip.proofs.Decimals.{integer-positive, integer-negative}
+use Rattle.av_round_trip.proofs.Types.{number-fits}
 use Rattle.av_round_trip.proofs.Giving.{none, join, given_row, given_space, given_sign, given_token, given_spaced, given_round}
 use Rattle.av_round_trip.proofs.Binding.{One, Others, Several, closed, ExpressionRows, leads_sum, binds}
 
@@ -62,13 +62,6 @@ word_of_keyword None text = word_of_class (is_scalar text)
 pub word-fits : (text : List ℕ) → IsTrue (fits_of test.Word (class_of_word (kinds.Word, text)))
 word-fits text = word_of_keyword (keyword_of text) text
 
-either_number : (zero : Bool) → IsTrue (fits_of test.Number (if zero then class.Zero else class.Positive))
-either_number true = refl
-either_number false = refl
-
-number_fits : (digits : List ℕ) → IsTrue (fits_of test.Number (class_of_word (kinds.Number, digits)))
-number_fits digits = either_number (list_all (λ digit. digit == 48) digits)
-
 module _ {most : ℕ} where
   given_name_of : (text : List ℕ) → IsTrue (fits_of test.Parameter (class_of_word (kinds.Word, text))) ⊎ IsTrue (fits_of test.Division (class_of_word (kinds.Word, text)))
       → One most (rows maps_name.Base) (plain text) (whole (Name text))
@@ -82,12 +75,12 @@ module _ {most : ℕ} where
   given_constant : (z : ℤ) → IsShortInteger z → One most (rows maps_name.Factor) (number z) (whole (Const z))
   unfolding number replaced on_top
   given_constant (pos n) h =
-      given_row (rule.Map maps_rule.NumberFactor) refl tt (given_token test.Number kinds.Number (decimal n) (number_fits (decimal n)))
+      given_row (rule.Map maps_rule.NumberFactor) refl tt (given_token test.Number kinds.Number (decimal n) (number-fits (decimal n)))
       (ap (λ (z : ℤ). Some (value.Expression (whole (Const z)) ∷ [])) (integer-positive n (omega arith)))
   given_constant (negsuc n) h =
       given_row (rule.Map maps_rule.MinusFactor) refl tt
       (join (given_sign signs.Minus)
-      (given_row (rule.Map maps_rule.NegativeNumber) refl tt (given_token test.Number kinds.Number (decimal (suc n)) (number_fits (decimal (suc n))))
+      (given_row (rule.Map maps_rule.NegativeNumber) refl tt (given_token test.Number kinds.Number (decimal (suc n)) (number-fits (decimal (suc n))))
       (ap (λ (z : ℤ). Some (value.Expression (whole (Const z)) ∷ [])) (integer-negative n (omega arith)))))
       refl
 
@@ -142,14 +135,14 @@ module _ {most : ℕ} where
     unfolding replaced on_top
     given_brackets several = given_row (rule.Map maps_rule.InBrackets) refl tt (given_round several) refl
 
-  map_rows : ExpressionRows most plain whole
+  map_rows : ExpressionRows most (λ text. Unit {0}) plain whole
   map_rows = record {
     base = rows maps_name.Base;
     factor = rows maps_name.Factor;
     more_factors = rows maps_name.Product;
     term = rows maps_name.Term;
     more_terms = rows maps_name.Sum;
-    parameter = given_name;
+    parameter = λ text is. given_name text;
     in_brackets = given_brackets;
     constant = given_constant;
     tight = given_tight;

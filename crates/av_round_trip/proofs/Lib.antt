@@ -4,6 +4,7 @@ pub mod Giving
 pub mod Types
 pub mod Binding
 pub mod Expressions
+pub mod Subscripts
 pub mod Maps
 pub mod Pairs
 pub mod Fewest

@@ -15,7 +15,7 @@ use Rattle.av_tree.specs.declared.written.ExprText.{ExprText, Name, Const, Neg, 
 use Rattle.av_tree.specs.declared.written.MapText.{MapText}
 use Rattle.av_tree.specs.declared.written.RowText.{RowText}
 use Rattle.av_tree.specs.declared.written.SetText.{SetText}
-use Rattle.av_printer.specs.Pieces.{plain}
+use Rattle.av_printer.specs.Pieces.{Piece, plain}
 use Rattle.av_printer.specs.Expressions.{expression, map_pieces, set_pieces}
 use Rattle.av_values.specs.declared.value.Expression.{Expression}
 use Rattle.av_values.specs.declared.value.Value.TheVariants as value
@@ -24,21 +24,28 @@ use Rattle.av_written.specs.ReadExpressions.{IsShortInteger}
 use Rattle.av_again.specs.Making.{Word, class_of_word, is_calculation, Makes}
 use Rattle.av_round_trip.specs.Giving.{Gives}
 
--- the numbers in an expression have at most 38 digits
-pub data HasShortNumbers : ExprText → Type 0 where
-  named : (text : List ℕ) → HasShortNumbers (Name text)
-  number : (z : ℤ) → IsShortInteger z → HasShortNumbers (Const z)
-  negation : (a : ExprText) → HasShortNumbers a → HasShortNumbers (Neg a)
-  sum : (a b : ExprText) → HasShortNumbers a → HasShortNumbers b → HasShortNumbers (Add a b)
-  difference : (a b : ExprText) → HasShortNumbers a → HasShortNumbers b → HasShortNumbers (Sub a b)
-  product : (a b : ExprText) → HasShortNumbers a → HasShortNumbers b → HasShortNumbers (Mul a b)
-  remainder : (a b : ExprText) → HasShortNumbers a → HasShortNumbers b → HasShortNumbers (Mod a b)
-  floored : (a b : ExprText) → HasShortNumbers a → HasShortNumbers b → HasShortNumbers (Floor a b)
-  ceiled : (a b : ExprText) → HasShortNumbers a → HasShortNumbers b → HasShortNumbers (Ceil a b)
+-- the names in an expression can be read, and its numbers have at most 38 digits
+pub data IsLegible (IsName : List ℕ → Type 0) : ExprText → Type 0 where
+  named : (text : List ℕ) → IsName text → IsLegible IsName (Name text)
+  number : (z : ℤ) → IsShortInteger z → IsLegible IsName (Const z)
+  negation : (a : ExprText) → IsLegible IsName a → IsLegible IsName (Neg a)
+  sum : (a b : ExprText) → IsLegible IsName a → IsLegible IsName b → IsLegible IsName (Add a b)
+  difference : (a b : ExprText) → IsLegible IsName a → IsLegible IsName b → IsLegible IsName (Sub a b)
+  product : (a b : ExprText) → IsLegible IsName a → IsLegible IsName b → IsLegible IsName (Mul a b)
+  remainder : (a b : ExprText) → IsLegible IsName a → IsLegible IsName b → IsLegible IsName (Mod a b)
+  floored : (a b : ExprText) → IsLegible IsName a → IsLegible IsName b → IsLegible IsName (Floor a b)
+  ceiled : (a b : ExprText) → IsLegible IsName a → IsLegible IsName b → IsLegible IsName (Ceil a b)
 
--- how many signs and words of calculation are written in an expression
+-- any word stands for a parameter of a map
+abbrev pub HasShortNumbers : ExprText → Type 0
+HasShortNumbers = IsLegible (λ text. Unit {0})
+
+-- how many signs and words of calculation are written in an expression, whose names are spelled so
+abbrev pub signs_of : (List ℕ → List Piece) → ExprText → ℕ
+signs_of spell e = count_by (λ (word : Word). is_calculation (class_of_word word)) (words_of (expression spell e))
+
 abbrev pub signs_in : ExprText → ℕ
-signs_in e = count_by (λ (word : Word). is_calculation (class_of_word word)) (words_of (expression plain e))
+signs_in = signs_of plain
 
 -- an expression that can be read where it may have so many signs
 pub record IsExpression (most : ℕ) (e : ExprText) : Type 0 where
