@@ -15,7 +15,7 @@ use Rattle.std.specs.Prelude.{codes}
 use Rattle.av_form_laws.specs.Attributes.{constant_type, first_applied, first_constant}
 use Rattle.av_form_laws.specs.Items.{AreCarried, AreNumbered, access_taken, applied_entry, bound_size, Fits, HasFirst, StandsAt, chosen, give, opened, rest, taken, with_last}
 use Rattle.av_form_laws.specs.Loops.{Carrying, args_in, args_of, first_name, inits_of, paired, types_of, with_args_in}
-use Rattle.av_form_laws.specs.Subscripts.{numbered_map}
+use Rattle.av_form_laws.specs.Subscripts.{numbered_values}
 use Rattle.av_form_laws.proofs.Regions.{args-back, last-twice, line-same}
 use Rattle.av_form_laws.specs.Lines.{Line, all_written, at_slot, back, cleared, filled, first_text, front, known, put_at_slot, type_at, unwritten}
 
@@ -85,9 +85,9 @@ bound-back n ps h =
 access-back : (k : ℕ) (n : Line) (subscripts : List Expression) → HasFirst n.operands → AreNumbered subscripts k n
     → give item.Access (first_text n.operands, subscripts) (rest item.Access k n) ≡ n
 access-back k n subscripts first h =
-    ap (λ (xs : List (List ℕ)). let m : Line = record n { operands = first_text n.operands ∷ (xs ++ back k (drop 1 n.operands)); properties = applied_entry (codes "map") (numbered_map subscripts) ∷ drop 1 n.properties } in m) (sym h.0)
-    ∙ ap (λ (xs : List (List ℕ)). let m : Line = record n { operands = xs; properties = applied_entry (codes "map") (numbered_map subscripts) ∷ drop 1 n.properties } in m) (element-parts k n.operands first)
-    ∙ ap (λ (es : List Named). let m : Line = record n { properties = es } in m) (sym h.1)
+    let ops : first_text n.operands ∷ (numbered_values subscripts ++ back k (drop 1 n.operands)) ≡ n.operands =
+    ap (λ xs. first_text n.operands ∷ (xs ++ back k (drop 1 n.operands))) (sym h.0) ∙ element-parts k n.operands first in
+    line-same n _ _ _ _ _ ops (sym h.1) refl refl refl
 
 -- as many types as values
 same-length : (k : ℕ) (n : Line) (cs : List Carrying) → front k n.operands ≡ inits_of cs

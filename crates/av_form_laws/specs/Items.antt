@@ -49,7 +49,7 @@ with_lower a size es = applied_entry (codes "lowerBoundMap") a ∷ (front 1 es +
 abbrev pub with_upper : Applied → ℕ → ℕ → List Named → List Named
 with_upper a size behind es = applied_entry (codes "upperBoundMap") a ∷ (es ++ sizes_entry (pos size ∷ pos behind ∷ []) ∷ [])
 
--- the operands of the next bound, and all that are behind it
+-- how many operands the next bound has, and its map with them
 abbrev pub bound_size : Line → ℕ
 bound_size n = first_size (last_numbers n.properties)
 
