@@ -1,20 +1,20 @@
 -- Operations that fit forms, and others that don't, worked out.
-use Rattle.std.proofs.Common.{◌≡◌, ℕ, Bool, true, false, ◌&&◌, ◌||◌, suc, List, [], ◌∷◌, Option, None, Some, refl, ap, sym, subst, ◌∙◌, if◌then◌else◌}
-use Rattle.std.specs.Prelude.{ℤ, codes, pos}
+use Rattle.std.proofs.Common.{◌≡◌, ℕ, Bool, true, false, ◌&&◌, ◌||◌, suc, List, [], ◌∷◌, None, Some, refl, ap, sym, subst, ◌∙◌, if◌then◌else◌}
+use Rattle.std.specs.Prelude.{codes, pos}
 use Rattle.std.specs.List.{list_any}
 use Rattle.std.specs.Str.{bytes_eq}
 use Rattle.std.proofs.lemmas.Slice.Eq.{bytes_eq-Decides}
-use Rattle.av_tree.specs.declared.attribute.Attr.{Attr, Attr-F, out-Attr, out-roll-Attr}
+use Rattle.av_tree.specs.declared.attribute.Attr.{out-Attr}
 use Rattle.av_tree.specs.declared.attribute.Attr.TheVariants as attr
-use Rattle.av_tree.specs.declared.attribute.Attr.TheOpen as open_attr
-use Rattle.av_tree.specs.declared.attribute.Named.{Named, Named-F, out-Named, out-roll-Named}
-use Rattle.av_tree.specs.declared.written.TypeText.{TypeText}
+use Rattle.av_tree.specs.declared.attribute.Named.{Named}
 use Rattle.av_dialects.specs.declared.item.Key.{Key}
 use Rattle.av_dialects.specs.declared.item.Key.TheVariants as key
 use Rattle.av_dialects.specs.Rows.{predicates}
 use Rattle.av_form_laws.specs.Examples.{CastExamples, LineExamples, MarkExamples, OperandExamples, TypedExamples, WordsFit}
 use Rattle.av_form_laws.specs.Lines.{Line}
-use Rattle.av_values.specs.Nodes.{entry}
+use Rattle.av_form_laws.proofs.WholeLoop.{loop-examples}
+use Rattle.av_form_laws.proofs.LoopExamples.{access-examples, bound-examples, carried-examples, else-examples, region-examples, result-examples, step-examples}
+use Rattle.av_form_laws.proofs.Entries.{out-hash, out-number, value-of}
 use Rattle.av_form_laws.specs.Properties.{first_word, is_word_of, long, place_in, word_at, word_entry, word_in}
 
 cast-examples : CastExamples
@@ -51,15 +51,6 @@ mark-examples : MarkExamples
 mark-examples e = ((tt, refl), (λ h. let d : _ ∷ [] ≡ [] = ap (λ (m : Line). m.attrs) h in cc))
 
 -- ---- words
-value-of : (name : List ℕ) (x : Attr) → (out-Named (entry name x)).value ≡ x
-value-of name x = ap (λ (e : Named-F Attr Named). e.value) (out-roll-Named (record { name = name; value = x }))
-
-out-number : (z : ℤ) (t : TypeText) → out-Attr (attr.Number z t) ≡ open_attr.Number z t
-out-number z t = ap out-Attr (sym (attr.rolls-Number z t)) ∙ out-roll-Attr (open_attr.Number z t)
-
-out-hash : (name : List ℕ) (words : List (List ℕ)) → out-Attr (attr.Hash name words) ≡ open_attr.Hash name words
-out-hash name words = ap out-Attr (sym (attr.rolls-Hash name words)) ∙ out-roll-Attr (open_attr.Hash name words)
-
 one-more : (first : Bool) (word w : List ℕ) (ws : List (List ℕ)) → bytes_eq word w ≡ first → (first || list_any (bytes_eq word) ws) ≡ true
     → (list_any (bytes_eq word) ws ≡ true → word_at ws (place_in ws word) ≡ word)
     → word_at (w ∷ ws) (if first then 0 else suc (place_in ws word)) ≡ word
@@ -91,4 +82,18 @@ words-fit : WordsFit
 words-fit k word h i n = (word-fits k word h n.properties, word-fits k word h n.properties)
 
 pub line-examples : LineExamples
-line-examples = (cast-examples, operand-examples, typed-examples, mark-examples, words-fit)
+line-examples = (
+  cast-examples,
+  operand-examples,
+  typed-examples,
+  mark-examples,
+  region-examples,
+  else-examples,
+  step-examples,
+  bound-examples,
+  carried-examples,
+  result-examples,
+  access-examples,
+  loop-examples,
+  words-fit,
+)

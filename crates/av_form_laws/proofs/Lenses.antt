@@ -1,7 +1,6 @@
 -- What is put back where it was taken is the operation.
 use Rattle.std.proofs.Common.{◌≡◌, ℕ, ◌-◌, zero, suc, List, [], ◌∷◌, ◌++◌, length, drop, set, Option, None, Some, slice_get, take, refl, ap, sym, ◌∙◌}
 use Rattle.std.proofs.lemmas.List.{append-nil, length-map, length-set, map-append, take-append-drop}
-use Rattle.av_tree.specs.declared.node.Body.{Body}
 use Rattle.av_tree.specs.declared.written.TypeText.{TypeText}
 use Rattle.av_values.specs.Loops.{counter}
 use Rattle.av_values.specs.declared.value.Expression.{Expression}
@@ -17,7 +16,7 @@ use Rattle.av_form_laws.specs.Attributes.{constant_type, first_applied, first_co
 use Rattle.av_form_laws.specs.Items.{AreCarried, AreNumbered, access_taken, applied_entry, bound_size, Fits, HasFirst, StandsAt, chosen, give, opened, rest, taken, with_last}
 use Rattle.av_form_laws.specs.Loops.{Carrying, args_in, args_of, first_name, inits_of, paired, types_of, with_args_in}
 use Rattle.av_form_laws.specs.Subscripts.{numbered_map}
-use Rattle.av_form_laws.proofs.Regions.{args-back, last-twice}
+use Rattle.av_form_laws.proofs.Regions.{args-back, last-twice, line-same}
 use Rattle.av_form_laws.specs.Lines.{Line, all_written, at_slot, back, cleared, filled, first_text, front, known, put_at_slot, type_at, unwritten}
 
 -- ---- operands
@@ -33,15 +32,6 @@ element-parts k xs h = ap (λ ys. first_text xs ∷ ys) (front-back k (drop 1 xs
 
 with-operands : (n : Line) (xs : List (List ℕ)) → xs ≡ n.operands → record n { operands = xs } ≡ n
 with-operands n xs e = ap (λ (ys : List (List ℕ)). let m : Line = record n { operands = ys } in m) e
-
-line-same : (n : Line) (ops : List (List ℕ)) (bodies : List Body) (ins outs : List (Option TypeText))
-    → ops ≡ n.operands → bodies ≡ n.regions → ins ≡ n.in_types → outs ≡ n.out_types
-    → record n { operands = ops; regions = bodies; in_types = ins; out_types = outs } ≡ n
-line-same n ops bodies ins outs e f g h =
-    ap (λ xs. let m : Line = record n { operands = xs; regions = bodies; in_types = ins; out_types = outs } in m) e
-    ∙ ap (λ xs. let m : Line = record n { regions = xs; in_types = ins; out_types = outs } in m) f
-    ∙ ap (λ xs. let m : Line = record n { in_types = xs; out_types = outs } in m) g
-    ∙ ap (λ xs. let m : Line = record n { out_types = xs } in m) h
 
 -- ---- types
 set-back : {A : Type 0} (xs : List A) (i : ℕ) (x y : A) → slice_get xs i ≡ Some x → set (set xs i y) i x ≡ xs
@@ -113,7 +103,7 @@ carried-back k n cs h =
     args-back (args_of cs) [] n.regions (h.0 ∙ sym (append-nil (args_of cs))) in
     let ins : with_last (all_written (types_of cs)) (with_last (unwritten (front k n.operands)) n.in_types) ≡ n.in_types =
     last-twice (all_written (types_of cs)) (unwritten (front k n.operands)) n.in_types (same-length k n cs h.1) ∙ sym h.2 in
-    line-same n _ _ _ _ ops bodies ins (sym h.3)
+    line-same n _ _ _ _ _ ops refl bodies ins (sym h.3)
 
 -- ---- each item
 -- put back where it was taken

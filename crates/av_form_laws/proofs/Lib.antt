@@ -1,9 +1,12 @@
+pub mod Entries
 pub mod Examples
 pub mod Forms
 pub mod Given
 pub mod Lenses
+pub mod LoopExamples
 pub mod Printed
 pub mod Reading
 pub mod Regions
 pub mod Subscripts
 pub mod Tables
+pub mod WholeLoop

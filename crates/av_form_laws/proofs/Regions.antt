@@ -1,12 +1,13 @@
 -- Arguments of a region that are taken and put back, and lists that are split from behind.
-use Rattle.std.proofs.Common.{arith, ◌≡◌, ℕ, ◌+◌, ◌-◌, List, [], ◌∷◌, ◌++◌, length, take, drop, map, Option, refl, ap, sym, ◌∙◌}
-use Rattle.std.proofs.lemmas.List.{length-append, length-map, take_at, drop_at}
+use Rattle.std.proofs.Common.{arith, ◌≡◌, ℕ, ◌+◌, ◌-◌, List, [], ◌∷◌, ◌++◌, length, take, drop, Option, refl, ap, sym, ◌∙◌}
+use Rattle.std.proofs.lemmas.List.{length-append, take_at, drop_at}
+use Rattle.av_tree.specs.declared.attribute.Named.{Named}
 use Rattle.av_tree.specs.declared.node.Body.{Body, Body-F, out-Body, out-roll-Body, roll-Body, roll-out-Body}
 use Rattle.av_tree.specs.declared.node.BodyArg.{BodyArg}
 use Rattle.av_tree.specs.declared.node.Node.{Node}
 use Rattle.av_tree.specs.declared.written.TypeText.{TypeText}
 use Rattle.av_form_laws.specs.Items.{with_last}
-use Rattle.av_form_laws.specs.Lines.{back, front}
+use Rattle.av_form_laws.specs.Lines.{Line, back, front}
 use Rattle.av_form_laws.specs.Loops.{args_in, with_args_in}
 
 -- ---- lists
@@ -25,6 +26,21 @@ last-twice own others ts e =
     ap (λ k. front k (front (length others) ts ++ others) ++ own) e
     ∙ ap (λ us. us ++ own) (front-append (front (length others) ts) others)
     ∙ ap (λ k. front k ts ++ own) (sym e)
+
+-- other types put last
+pub last-types : (own others ts : List (Option TypeText)) → length own ≡ length others → with_last own (ts ++ others) ≡ ts ++ own
+last-types own others ts e = ap (λ k. front k (ts ++ others) ++ own) e ∙ ap (λ us. us ++ own) (front-append ts others)
+
+-- ---- lines
+pub line-same : (n : Line) (ops : List (List ℕ)) (props : List Named) (bodies : List Body) (ins outs : List (Option TypeText))
+    → ops ≡ n.operands → props ≡ n.properties → bodies ≡ n.regions → ins ≡ n.in_types → outs ≡ n.out_types
+    → record n { operands = ops; properties = props; regions = bodies; in_types = ins; out_types = outs } ≡ n
+line-same n ops props bodies ins outs e d f g h =
+    ap (λ xs. let m : Line = record n { operands = xs; properties = props; regions = bodies; in_types = ins; out_types = outs } in m) e
+    ∙ ap (λ xs. let m : Line = record n { properties = xs; regions = bodies; in_types = ins; out_types = outs } in m) d
+    ∙ ap (λ xs. let m : Line = record n { regions = xs; in_types = ins; out_types = outs } in m) f
+    ∙ ap (λ xs. let m : Line = record n { in_types = xs; out_types = outs } in m) g
+    ∙ ap (λ xs. let m : Line = record n { out_types = xs } in m) h
 
 -- ---- arguments
 pub args-given : (args : List BodyArg) (body : Body) (bodies : List Body) → args_in (with_args_in args (body ∷ bodies)) ≡ args

@@ -1,6 +1,6 @@
 -- An item of a form as a lens between an operation and one value: the value, the operation without it, and the value put back.
 -- The number is that of the operands that the parts behind the item need in any case.
-use Rattle.std.specs.Prelude.{ℕ, ℤ, pos, ◌≡◌, Bool, true, false, List, [], ◌∷◌, ◌++◌, length, take, drop, Option, None, Some, codes}
+use Rattle.std.specs.Prelude.{ℕ, pos, ◌≡◌, Bool, true, false, List, [], ◌∷◌, ◌++◌, length, take, drop, Option, None, Some, codes}
 use Rattle.std.specs.List.{list_all}
 use Rattle.av_tree.specs.declared.written.TypeText.{TypeText, TypeText-F, out-TypeText}
 use Rattle.av_tree.specs.declared.written.TypeText.TheOpen as types

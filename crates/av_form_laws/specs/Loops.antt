@@ -1,11 +1,11 @@
 -- The parts of loops and branches: bounds, steps, carried values and regions.
-use Rattle.std.specs.Prelude.{ℕ, ℤ, pos, negsuc, ◌==◌, ◌&&◌, Bool, true, false, if◌then◌else◌, List, [], ◌∷◌, map, codes}
+use Rattle.std.specs.Prelude.{ℕ, ℤ, pos, negsuc, ◌==◌, ◌&&◌, Bool, if◌then◌else◌, List, [], ◌∷◌, map, codes}
 use Rattle.std.specs.Str.{bytes_eq}
 use Rattle.av_tree.specs.declared.attribute.Attr.{Attr, Attr-F, out-Attr}
 use Rattle.av_tree.specs.declared.attribute.Attr.TheVariants as attr
 use Rattle.av_tree.specs.declared.attribute.Attr.TheOpen as attrs
 use Rattle.av_tree.specs.declared.attribute.Named.{Named, out-Named}
-use Rattle.av_tree.specs.declared.node.Body.{Body, Body-F, out-Body, roll-Body}
+use Rattle.av_tree.specs.declared.node.Body.{Body, out-Body, roll-Body}
 use Rattle.av_tree.specs.declared.node.BodyArg.{BodyArg}
 use Rattle.av_tree.specs.declared.node.Node.{Node, Node-F, out-Node}
 use Rattle.av_tree.specs.declared.written.ExprText.TheVariants as expr

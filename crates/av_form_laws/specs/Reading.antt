@@ -22,7 +22,7 @@ use Rattle.av_dialects.specs.declared.item.Wanted.TheVariants as wanted
 use Rattle.av_dialects.specs.Rows.{Part, HasForm, HasName, HasResults}
 use Rattle.av_form_laws.specs.Attributes.{Applied, applied_attr}
 use Rattle.av_form_laws.specs.Loops.{Carrying, number_map, types_of, value_map}
-use Rattle.av_form_laws.specs.Rows.{Head, made}
+use Rattle.av_form_laws.specs.Rows.{made}
 use Rattle.av_form_laws.specs.Values.{Values}
 
 -- ---- the forms

@@ -5,7 +5,6 @@ use Rattle.std.specs.List.{All}
 use Rattle.std.proofs.lemmas.List.{reverse-reverse}
 use Rattle.av_tree.specs.declared.node.Node.{Node, Node-F, out-Node, roll-Node, out-roll-Node}
 use Rattle.av_tree.specs.declared.node.Body.{Body}
-use Rattle.av_tree.specs.declared.table.Symbol.{Symbol}
 use Rattle.av_tree.specs.declared.table.Symbol.TheVariants as symbol
 use Rattle.av_tree.specs.declared.table.Test.TheVariants as test
 use Rattle.av_tree.specs.declared.table.Name.TheVariants as name
@@ -25,10 +24,11 @@ use Rattle.av_values.specs.Sorts.{on_top, replaced}
 use Rattle.av_values.specs.declared.value.Value.TheVariants as value
 use Rattle.av_round_trip.specs.Giving.{Gives}
 use Rattle.av_round_trip.specs.Trees.{IsNameOfResults, IsComplete, IsWholeLine, as_read, body_as_read}
-use Rattle.av_round_trip.proofs.Giving.{none, join, given_as, given_row, given_line, given_revalued}
+use Rattle.av_round_trip.proofs.Giving.{none, join, given_as, given_row, given_line}
+use Rattle.av_round_trip.proofs.Types.{given_results}
 use Rattle.av_round_trip.proofs.Quotes.{in_quotes, quoted_fits}
 use Rattle.av_round_trip.proofs.ReadNodes.{layer_as_read, as_read-is, completed-as_read}
-use Rattle.av_round_trip.proofs.Parts.{PartsLaws, HaveTexts, have_texts, given_named, made-is}
+use Rattle.av_round_trip.proofs.Parts.{HaveTexts, have_texts, given_named, made-is}
 use Rattle.av_round_trip.proofs.Regions.{Operations, EachBody, given_regions}
 
 -- ---- one operation
@@ -61,7 +61,7 @@ named-is node names is =
     ∙ ap (λ (found : List (List ℕ)). roll-Node (record (layer_as_read (out-Node node)) { results = found })) (reverse-reverse names ∙ sym is)
     ∙ sym (as_read-is node)
 
-module _ (laws : PartsLaws) {most : ℕ} (depth : ℕ) (node : Node) (h : IsWholeLine most (out-Node node)) (bodies : EachBody most depth (out-Node node).regions) where
+module _ {most : ℕ} (depth : ℕ) (node : Node) (h : IsWholeLine most (out-Node node)) (bodies : EachBody most depth (out-Node node).regions) where
   takes : HaveTexts (out-Node node).in_types
   takes = have_texts (out-Node node).in_types h.takes
 
@@ -74,8 +74,8 @@ module _ (laws : PartsLaws) {most : ℕ} (depth : ℕ) (node : Node) (h : IsWhol
       let read : List Body = map body_as_read (out-Node node).regions in
       let inner = given_regions depth (out-Node node).regions bodies in
       given_row (rule.Generic generic_rule.GenericForm) refl tt
-      (given_named laws (out-Node node) h takes gives read inner test.String (quoted_fits (in_quotes (out-Node node).name)))
-      (ap (λ (n : Node). Some (value.Node n ∷ [])) (made-is laws (out-Node node) h takes gives read inner))
+      (given_named (out-Node node) h takes gives read inner test.String (quoted_fits (in_quotes (out-Node node).name)))
+      (ap (λ (n : Node). Some (value.Node n ∷ [])) (made-is (out-Node node) h takes gives read inner))
 
 -- ---- operations in a row
 pub no_operation : {most : ℕ} → Gives most (Operations ∷ []) [] (value.Nodes [] ∷ [])
@@ -96,18 +96,18 @@ module _ {most : ℕ} (depth : ℕ) (node : Node) {form others : List Piece} {no
       (given_row (rule.Region regions_rule.WithoutResults) refl tt (join (given_line depth) operation)
       (ap (λ (n : Node). Some (value.Nodes (nodes ++ n ∷ []) ∷ [])) is))
 
-  with_results : (laws : PartsLaws) (first : List ℕ) (names : List (List ℕ)) → All IsNameOfResults (first ∷ names)
+  with_results : (first : List ℕ) (names : List (List ℕ)) → All IsNameOfResults (first ∷ names)
       → named (nameless node) (reverse (reverse (first ∷ names))) 0 ≡ as_read node
       → Gives most (Operations ∷ []) ((new_line depth ++ (results_before (first ∷ names) ++ form)) ++ others) (value.Nodes (nodes ++ as_read node ∷ []) ∷ [])
   unfolding replaced on_top
-  with_results laws first names all is =
+  with_results first names all is =
       given_as (append_assoc (new_line depth) (results_before (first ∷ names) ++ form) others
       ∙ ap (λ (l : List Piece). new_line depth ++ l) (append_assoc (results_before (first ∷ names)) form others))
       (given_row (rule.Region regions_rule.WithResults) refl tt
-      (join (given_line depth) (join (laws.results most first names all) operation))
+      (join (given_line depth) (join (given_results first names all) operation))
       (ap (λ (n : Node). Some (value.Nodes (nodes ++ n ∷ []) ∷ [])) is))
 
-module _ (laws : PartsLaws) {most : ℕ} (depth : ℕ) (node : Node) (complete : IsComplete node) (h : IsWholeLine most (out-Node node))
+module _ {most : ℕ} (depth : ℕ) (node : Node) (complete : IsComplete node) (h : IsWholeLine most (out-Node node))
     (bodies : EachBody most depth (out-Node node).regions) {others : List Piece} {nodes : List Node}
     (rest : Gives most (Operations ∷ []) others (value.Nodes nodes ∷ [])) where
   abbrev line_with : List (List ℕ) → List Piece
@@ -115,9 +115,9 @@ module _ (laws : PartsLaws) {most : ℕ} (depth : ℕ) (node : Node) (complete :
 
   by_names : (names : List (List ℕ)) → (out-Node node).results ≡ names → Gives most (Operations ∷ []) (line_with names) (value.Nodes (nodes ++ as_read node ∷ []) ∷ [])
   unfolding results_before
-  by_names [] is = without_results depth node (given_form laws depth node h bodies) rest (completed-is node complete is)
+  by_names [] is = without_results depth node (given_form depth node h bodies) rest (completed-is node complete is)
   by_names (first ∷ names) is =
-      with_results depth node (given_form laws depth node h bodies) rest laws first names (subst (All IsNameOfResults) is h.makes) (named-is node (first ∷ names) is)
+      with_results depth node (given_form depth node h bodies) rest first names (subst (All IsNameOfResults) is h.makes) (named-is node (first ∷ names) is)
 
   -- one operation more
   pub given_operation : Gives most (Operations ∷ []) (node_line forms.Generic depth node ++ others) (value.Nodes (nodes ++ as_read node ∷ []) ∷ [])

@@ -1,5 +1,5 @@
 -- What trees are made of beside operations, and what stands behind the name of an operation in the form that all have in common.
-use Rattle.std.proofs.Common.{◌≡◌, ℕ, List, [], ◌∷◌, ◌++◌, map, append_assoc, refl, sym, subst, ap, ◌∙◌}
+use Rattle.std.proofs.Common.{◌≡◌, ℕ, List, [], ◌∷◌, ◌++◌, map, append_assoc, refl, sym, ap, ◌∙◌}
 use Rattle.std.specs.Prelude.{reverse, IsTrue, Option, Some}
 use Rattle.std.specs.List.{All}
 use Rattle.std.proofs.lemmas.List.{reverse-reverse}
@@ -27,25 +27,24 @@ use Rattle.av_values.specs.Forms.{generic_of}
 use Rattle.av_values.specs.Spellings.{unquoted}
 use Rattle.av_values.specs.Sorts.{on_top, replaced}
 use Rattle.av_values.specs.declared.value.GenericParts.{GenericParts}
-use Rattle.av_values.specs.declared.value.Value.{Value}
 use Rattle.av_values.specs.declared.value.Value.TheVariants as value
 use Rattle.av_again.specs.Making.{class_of_word}
 use Rattle.av_round_trip.specs.Giving.{Gives}
-use Rattle.av_round_trip.specs.Types.{IsType, IsNameOfValue, ManyValuesLaw, TypesLaw, ManyTypesLaw, ResultTypesLaw}
-use Rattle.av_round_trip.specs.Trees.{IsKnownType, known, IsWholeLine, body_as_read, ResultsLaw, PropertiesLaw, MarksLaw}
+use Rattle.av_round_trip.specs.Types.{IsType, IsNameOfValue}
+use Rattle.av_round_trip.specs.Trees.{IsKnownType, known, IsWholeLine, PropertiesLaw, MarksLaw}
 use Rattle.av_round_trip.proofs.Giving.{join, given_as, given_row, given_spaced, given_token, given_round}
+use Rattle.av_round_trip.proofs.Types.{many_values-law, integers-law, types-law, many_types-law, result_types-law}
+use Rattle.av_round_trip.proofs.Maps.{maps-law, sets-law}
+use Rattle.av_round_trip.proofs.Dictionaries.{properties-law, marks-law}
 use Rattle.av_round_trip.proofs.Quotes.{in_quotes, unquoted-is}
 use Rattle.av_round_trip.proofs.ReadNodes.{layer_as_read}
 
--- what the other parts of a tree give
-pub record PartsLaws : Type 0 where
-  pub results : ResultsLaw
-  pub values : ManyValuesLaw
-  pub one_type : TypesLaw
-  pub types : ManyTypesLaw
-  pub result_types : ResultTypesLaw
-  pub properties : PropertiesLaw
-  pub marks : MarksLaw
+-- ---- dictionaries behind operations
+given_properties : PropertiesLaw
+given_properties = properties-law types-law many_types-law result_types-law integers-law maps-law sets-law
+
+given_marks : MarksLaw
+given_marks = marks-law types-law many_types-law result_types-law integers-law maps-law sets-law
 
 -- ---- types that the tree has
 record HasText (type : Option TypeText) : Type 0 where
@@ -80,19 +79,19 @@ known-pieces (t ∷ texts) = ap (λ pieces. type_pieces t ∷ pieces) (known-pie
 pieces-are : (types : List (Option TypeText)) (have : HaveTexts types) → map known_type types ≡ map type_pieces have.texts
 pieces-are types have = ap (map known_type) have.are ∙ known-pieces have.texts
 
-module _ (laws : PartsLaws) {most : ℕ} (types : List (Option TypeText)) (have : HaveTexts types) where
+module _ {most : ℕ} (types : List (Option TypeText)) (have : HaveTexts types) where
   given_known : Gives most (symbol.Rows (name.Type types_name.Types) ∷ []) (known_types types) (value.Types (reverse have.texts) ∷ [])
   unfolding known_types
-  given_known = given_as (ap commas (pieces-are types have)) (laws.types most have.texts have.all)
+  given_known = given_as (ap commas (pieces-are types have)) (many_types-law most have.texts have.all)
 
   given_known_results : Gives most (symbol.Rows (name.Type types_name.ResultTypes) ∷ []) (known_results types) (value.Types (reverse have.texts) ∷ [])
   unfolding known_results
-  given_known_results = given_as (ap one_or_several (pieces-are types have)) (laws.result_types most have.texts have.all)
+  given_known_results = given_as (ap one_or_several (pieces-are types have)) (result_types-law most have.texts have.all)
 
-given_operands : (laws : PartsLaws) {most : ℕ} (operands : List (List ℕ)) → All IsNameOfValue operands
+given_operands : {most : ℕ} (operands : List (List ℕ)) → All IsNameOfValue operands
     → Gives most (symbol.Rows (name.Value values_name.Values) ∷ []) (values_pieces operands) (value.Texts (reverse operands) ∷ [])
 unfolding values_pieces
-given_operands laws {most} operands all = laws.values most operands all
+given_operands {most} operands all = many_values-law most operands all
 
 -- ---- the parts behind the name
 abbrev parts_of : List (List ℕ) → List Named → List Body → List Named → List TypeText → List TypeText → GenericParts
@@ -110,7 +109,7 @@ regrouped : (q v p r e : List Piece) → (((q ++ v) ++ p) ++ r) ++ e ≡ q ++ ((
 regrouped q v p r e =
     ap (λ (l : List Piece). (l ++ r) ++ e) (append_assoc q v p) ∙ ap (λ (l : List Piece). l ++ e) (append_assoc q (v ++ p) r) ∙ append_assoc q ((v ++ p) ++ r) e
 
-module _ (laws : PartsLaws) {most : ℕ} (x : Node-F Body Node) (h : IsWholeLine most x) (takes : HaveTexts x.in_types) (gives : HaveTexts x.out_types)
+module _ {most : ℕ} (x : Node-F Body Node) (h : IsWholeLine most x) (takes : HaveTexts x.in_types) (gives : HaveTexts x.out_types)
     {regions : List Piece} (bodies : List Body)
     (inner : Gives most (symbol.Rows (name.Generic generic_name.Regions) ∷ []) regions (value.Bodies (reverse bodies) ∷ [])) where
   abbrev parts_pieces : List Piece
@@ -124,9 +123,9 @@ module _ (laws : PartsLaws) {most : ℕ} (x : Node-F Body Node) (h : IsWholeLine
   unfolding values_in_round signature known_in_round replaced on_top
   given_parts =
       given_row (rule.Generic generic_rule.WholeGeneric) refl tt
-      (join (join (join (given_round (given_operands laws x.operands h.uses)) (laws.properties most x.properties h.says)) inner)
-      (join (laws.marks most x.attrs h.marked)
-      (join (join (join (given_spaced signs.Colon) (given_round (given_known laws x.in_types takes))) (given_spaced signs.Arrow)) (given_known_results laws x.out_types gives))))
+      (join (join (join (given_round (given_operands x.operands h.uses)) (given_properties most x.properties h.says)) inner)
+      (join (given_marks most x.attrs h.marked)
+      (join (join (join (given_spaced signs.Colon) (given_round (given_known x.in_types takes))) (given_spaced signs.Arrow)) (given_known_results x.out_types gives))))
       (ap (λ (parts : GenericParts). Some (value.Generic parts ∷ [])) (turned-twice x.operands (in_order x.properties) bodies (in_order x.attrs) takes.texts gives.texts))
 
   abbrev pub form_pieces : List Piece

@@ -28,8 +28,8 @@ use Rattle.av_values.specs.declared.value.Value.TheVariants as value
 use Rattle.av_round_trip.specs.Giving.{Gives}
 use Rattle.av_round_trip.specs.Trees.{IsWholeArg, as_read, body_as_read}
 use Rattle.av_round_trip.proofs.Giving.{none, join, given_as, given_row, given_space, given_line, given_sign, given_token, given_colon, given_comma, given_round, Every, ListRows, given_all}
+use Rattle.av_round_trip.proofs.Types.{types-law}
 use Rattle.av_round_trip.proofs.ReadNodes.{body_as_read-is}
-use Rattle.av_round_trip.proofs.Parts.{PartsLaws}
 
 abbrev pub Operations : Symbol
 Operations = symbol.Rows (name.Region regions_name.Operations)
@@ -72,10 +72,10 @@ argument_symbols = symbol.Token test.ValId ∷ symbol.Sign signs.Colon ∷ symbo
 abbrev argument_values : BodyArg → List Value
 argument_values a = value.Text a.name ∷ value.Type a.ty ∷ []
 
-module _ (laws : PartsLaws) {most : ℕ} where
+module _ {most : ℕ} where
   given_argument : (a : BodyArg) → IsWholeArg a → Gives most argument_symbols (argument a) (argument_values a)
   unfolding argument
-  given_argument a h = join (join (given_token test.ValId kinds.ValId a.name refl) given_colon) (laws.one_type most a.ty h)
+  given_argument a h = join (join (given_token test.ValId kinds.ValId a.name refl) given_colon) (types-law most a.ty h)
 
   argument_rows : ListRows most argument_symbols (name.Generic generic_name.Arguments) (name.Generic generic_name.MoreArguments) argument_values value.Args
   unfolding replaced on_top

@@ -12,16 +12,17 @@ use Rattle.av_written.proofs.TextsOf.{spellings-law}
 use Rattle.av_written.proofs.NodeParts.{trees-law}
 use Rattle.av_again.specs.Laws.{IsMade, IsReadAs}
 use Rattle.av_again.proofs.Again.{reading-law}
-use Rattle.av_round_trip.specs.Trees.{as_read, GenericTreesLaw}
-use Rattle.av_round_trip.specs.Laws.{IsReadable, GenericTextsLaw}
+use Rattle.av_round_trip.specs.Trees.{as_read}
+use Rattle.av_round_trip.specs.Laws.{GenericTextsLaw}
+use Rattle.av_round_trip.proofs.Trees.{generic_trees-law}
 
-pub generic_texts : GenericTreesLaw → GenericTextsLaw
+pub generic_texts-law : GenericTextsLaw
 unfolding spelling
-generic_texts trees tree readable =
+generic_texts-law tree readable =
     let pieces : List Piece = pieces_of forms.Generic tree.root in
     let spaced = trees-law forms.Generic tree.root readable.spelled in
     let again : Tree = record { aliases = []; root = as_read tree.root } in
-    let made : IsMade (words_of pieces) again = record { makes = trees the_limits.signs tree.root readable.whole readable.named readable.alone; brackets = readable.brackets } in
+    let made : IsMade (words_of pieces) again = record { makes = generic_trees-law the_limits.signs tree.root readable.whole readable.named readable.alone; brackets = readable.brackets } in
     let read : IsReadAs (spelt pieces) (tokens_of pieces 0) again = reading-law (spelt pieces) (tokens_of pieces 0) (words_of pieces) again (spellings-law pieces) made in
     record {
       tokens = tokens_of pieces 0;

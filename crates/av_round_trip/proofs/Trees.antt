@@ -26,15 +26,15 @@ use Rattle.av_round_trip.specs.Trees.{IsWholeLine, IsWhole, AreWholeBodies, AreW
 use Rattle.av_round_trip.proofs.Giving.{none, join, given_as, given_row, given_line, given_revalued}
 use Rattle.av_round_trip.proofs.Quotes.{in_quotes}
 use Rattle.av_round_trip.proofs.ReadNodes.{out-as_read}
-use Rattle.av_round_trip.proofs.Parts.{PartsLaws, HaveTexts, have_texts, given_named, made-is}
+use Rattle.av_round_trip.proofs.Parts.{HaveTexts, have_texts, given_named, made-is}
 use Rattle.av_round_trip.proofs.Regions.{Operations, EachBody, given_regions, given_body}
-use Rattle.av_round_trip.proofs.Nodes.{nameless, form_pieces, whole-is, nameless-is, no_operation, given_operation}
+use Rattle.av_round_trip.proofs.Nodes.{form_pieces, whole-is, nameless-is, no_operation, given_operation}
 
 whole_line : {most : ℕ} (n : Node) → IsWhole most n → IsWholeLine most (out-Node n)
 whole_line _ (node n line inside) = line
 
 -- ---- operations and regions
-module _ (laws : PartsLaws) {most : ℕ} where
+module _ {most : ℕ} where
   mutual
     unfolding joined
 
@@ -44,14 +44,14 @@ module _ (laws : PartsLaws) {most : ℕ} where
     given_bodies : (bodies : List Body) → AreWholeBodies most bodies → (depth : ℕ) → EachBody most depth bodies
     given_bodies _ no_bodies depth = tt
     given_bodies _ (one_body_more b rest args nodes others) depth =
-        (given_body laws depth b args (given_nodes (out-Body b).nodes nodes (depth + 1)), given_bodies rest others depth)
+        (given_body depth b args (given_nodes (out-Body b).nodes nodes (depth + 1)), given_bodies rest others depth)
 
     given_nodes : (nodes : List Node) → AreWholeNodes most nodes → (depth : ℕ)
         → Gives most (Operations ∷ []) (joined (map (node_line forms.Generic depth) nodes)) (value.Nodes (reverse (map as_read nodes)) ∷ [])
     given_nodes _ no_nodes depth = no_operation
     given_nodes _ (one_node_more n rest complete whole others) depth =
         given_revalued (ap value.Nodes (sym (reverse-append (as_read n ∷ []) (map as_read rest))))
-        (given_operation laws depth n complete (whole_line n whole) (given_inside n whole depth) (given_nodes rest others depth))
+        (given_operation depth n complete (whole_line n whole) (given_inside n whole depth) (given_nodes rest others depth))
 
   -- ---- the file
   module _ (root : Node) (whole : IsWhole most root) (is_module : (out-Node root).name ≡ codes "builtin.module") (no_results : (out-Node root).results ≡ []) where
@@ -72,9 +72,9 @@ module _ (laws : PartsLaws) {most : ℕ} where
         let read : List Body = map body_as_read (out-Node root).regions in
         let inner = given_regions 0 (out-Node root).regions (given_inside root whole 0) in
         given_row (rule.File file_rule.OnlyGenericModule) refl tt
-        (join (given_named laws (out-Node root) line takes gives read inner test.ModuleString fits) (given_line 0))
+        (join (given_named (out-Node root) line takes gives read inner test.ModuleString fits) (given_line 0))
         (ap (λ (n : Node). Some (value.Onward (record { node = n; others = [] }) ∷ []))
-        (made-is laws (out-Node root) line takes gives read inner ∙ nameless-is root no_results))
+        (made-is (out-Node root) line takes gives read inner ∙ nameless-is root no_results))
 
     root-is : root_of (as_read root ∷ []) ≡ as_read root
     root-is =
@@ -96,5 +96,5 @@ module _ (laws : PartsLaws) {most : ℕ} where
         (given_row (rule.File file_rule.PlainContent) refl tt top_level refl))
         (ap (λ (n : Node). Some (value.Tree (record { aliases = []; root = n }) ∷ [])) root-is))
 
-pub generic_trees : PartsLaws → GenericTreesLaw
-generic_trees laws most root whole is_module no_results = (given_tree laws root whole is_module no_results).makes
+pub generic_trees-law : GenericTreesLaw
+generic_trees-law most root whole is_module no_results = (given_tree root whole is_module no_results).makes

@@ -1,9 +1,8 @@
 -- Attributes and dictionaries that are printed and read again as themselves.
-use Rattle.std.specs.Prelude.{ℕ, ℤ, ◌≡◌, ◌≢◌, Bool, List, [], ◌∷◌, reverse, codes}
+use Rattle.std.specs.Prelude.{ℕ, ℤ, ◌≡◌, Bool, List, [], ◌∷◌, reverse, codes}
 use Rattle.std.specs.List.{All}
 use Rattle.av_lex.specs.declared.token.Kind.TheVariants as kinds
 use Rattle.av_tree.specs.declared.class.Class.TheVariants as class
-use Rattle.av_tree.specs.declared.table.Symbol.{Symbol}
 use Rattle.av_tree.specs.declared.table.Symbol.TheVariants as symbol
 use Rattle.av_tree.specs.declared.table.Name.TheVariants as name
 use Rattle.av_tree.specs.declared.table.attributes.AttributeName.TheVariants as attributes_name
@@ -15,7 +14,7 @@ use Rattle.av_tree.specs.declared.attribute.Element as elements
 use Rattle.av_tree.specs.declared.attribute.Attr.{Attr}
 use Rattle.av_tree.specs.declared.attribute.Attr as attrs
 use Rattle.av_tree.specs.declared.attribute.Named.{Named, out-Named}
-use Rattle.av_printer.specs.Attributes.{attribute, entry_pieces}
+use Rattle.av_printer.specs.Attributes.{attribute}
 use Rattle.av_printer.specs.Dictionaries.{dictionary, in_order}
 use Rattle.av_values.specs.declared.value.Value.TheVariants as value
 use Rattle.av_written.specs.ReadExpressions.{IsShortInteger}
@@ -35,27 +34,22 @@ mutual
     no_elements : AreElements []
     one_element_more : (e : Element) (es : List Element) → IsElement e → AreElements es → AreElements (e ∷ es)
 
--- the name of an alias, which is no `#` and a word that words in `<` and `>` may follow
-pub data IsAliasName (text : List ℕ) : Type 0 where
-  digits : class_of_word (kinds.HashId, text) ≡ class.HashDigits → IsAliasName text
-  word : class_of_word (kinds.HashId, text) ≡ class.HashWord → IsAliasName text
-  other : class_of_word (kinds.HashId, text) ≡ class.HashOther → IsAliasName text
-
 mutual
   -- an attribute that stands as a value; a unit is none, and a function type stands only behind the name `function_type`
   pub data IsAttribute (most : ℕ) : Attr → Type 0 where
     number : (z : ℤ) (ty : TypeText) → IsShortInteger z → IsType ty → IsAttribute most (attrs.Number z ty)
     truth : (b : Bool) → IsAttribute most (attrs.Bool b)
     quoted : (text : List ℕ) → IsAttribute most (attrs.Quoted text)
-    symbol : (text : List ℕ) → IsAttribute most (attrs.Symbol text)
+    symbol_name : (text : List ℕ) → IsAttribute most (attrs.Symbol text)
     typed : (ty : TypeText) → IsType ty → IsAttribute most (attrs.Type ty)
     mapped : (m : MapText) → IsMap most m → IsAttribute most (attrs.Map m)
     bounded : (s : SetText) → IsSet most s → IsAttribute most (attrs.Set s)
-    alias : (text : List ℕ) → IsAliasName text → IsAttribute most (attrs.AliasUse text)
+    alias : (text : List ℕ) → IsAttribute most (attrs.AliasUse text)
+    -- words in `<` and `>` follow a `#` and a word alone
     hashed : (text : List ℕ) (words : List (List ℕ)) → class_of_word (kinds.HashId, text) ≡ class.HashWord → IsAttribute most (attrs.Hash text words)
     list : (items : List Attr) → AreAttributes most items → IsAttribute most (attrs.List items)
     -- the entries of an inner dictionary are written as they stand
-    dictionary : (entries : List Named) → AreEntries most entries → IsAttribute most (attrs.Dictionary entries)
+    inner_dictionary : (entries : List Named) → AreEntries most entries → IsAttribute most (attrs.Dictionary entries)
     array : (elem : TypeText) (numbers : List ℤ) → IsType elem → All IsShortInteger numbers → IsAttribute most (attrs.Array elem numbers)
     dense : (e : Element) (ty : TypeText) → IsElement e → IsType ty → IsAttribute most (attrs.Dense e ty)
 

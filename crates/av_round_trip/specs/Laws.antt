@@ -1,8 +1,11 @@
 -- Texts that are spelled for trees, and read again as these trees.
-use Rattle.std.specs.Prelude.{ℕ, ◌≡◌, List, [], map, codes}
+use Rattle.std.specs.Prelude.{ℕ, ◌≡◌, List, [], ◌∷◌, map, codes}
 use Rattle.av_lex.specs.declared.token.Token.{Token}
 use Rattle.av_lex.specs.Tokens.{Tokens}
-use Rattle.av_tree.specs.declared.node.Node.{Node, out-Node}
+use Rattle.av_tree.specs.declared.attribute.Attr as attrs
+use Rattle.av_tree.specs.declared.attribute.Named.{Named, roll-Named}
+use Rattle.av_tree.specs.declared.node.Node.{Node, Node-F, out-Node, roll-Node}
+use Rattle.av_tree.specs.declared.node.Body.{Body, roll-Body}
 use Rattle.av_tree.specs.declared.node.Tree.{Tree}
 use Rattle.av_derive.specs.Derivation.{WithinBrackets}
 use Rattle.av_reader.specs.Reading.{the_limits}
@@ -32,3 +35,31 @@ pub record ReadsBackAs (text : List ℕ) (tree : Tree) : Type 0 where
 -- spelled, for places, and for the order of the entries of dictionaries, which are spelled by name.
 abbrev pub GenericTextsLaw : Type 0
 GenericTextsLaw = (tree : Tree) → IsReadable tree.root → ReadsBackAs (spelling forms.Generic tree) (record { aliases = []; root = as_read tree.root })
+
+-- ---- worked out by hand
+abbrev pub mark : List ℕ → Named
+mark text = roll-Named (record { name = text; value = attrs.Unit })
+
+-- a module of nothing
+abbrev pub example_layer : List Named → ℕ → Node-F Body Node
+example_layer marks place = record {
+  name = codes "builtin.module";
+  place = place;
+  results = [];
+  operands = [];
+  properties = [];
+  attrs = marks;
+  regions = roll-Body (record { args = []; nodes = [] }) ∷ [];
+  in_types = [];
+  out_types = [];
+}
+
+abbrev pub example_module : List Named → ℕ → Node
+example_module marks place = roll-Node (example_layer marks place)
+
+-- the marks of a module are spelled and read in order of name, and it is read without its place
+pub record ExampleLaw : Type 0 where
+  pub readable : IsReadable (example_module (mark (codes "b") ∷ mark (codes "a") ∷ []) 7)
+  pub spelled : spelling forms.Generic (record { aliases = []; root = example_module (mark (codes "b") ∷ mark (codes "a") ∷ []) 7 })
+      ≡ codes "\"builtin.module\"() ({\n}) {a, b} : () -> ()\n"
+  pub read : as_read (example_module (mark (codes "b") ∷ mark (codes "a") ∷ []) 7) ≡ example_module (mark (codes "a") ∷ mark (codes "b") ∷ []) 0

@@ -6,7 +6,6 @@ use Rattle.av_tree.specs.declared.class.Class.TheVariants as class
 use Rattle.av_tree.specs.declared.table.Symbol.TheVariants as symbol
 use Rattle.av_tree.specs.declared.table.Name.TheVariants as name
 use Rattle.av_tree.specs.declared.table.file.FileName.TheVariants as file_name
-use Rattle.av_tree.specs.declared.table.values.ValueName.TheVariants as values_name
 use Rattle.av_tree.specs.declared.table.generic.GenericName.TheVariants as generic_name
 use Rattle.av_tree.specs.declared.table.attributes.AttributeName.TheVariants as attributes_name
 use Rattle.av_tree.specs.declared.attribute.Named.{Named}
@@ -17,7 +16,7 @@ use Rattle.av_tree.specs.declared.node.Body.{Body, Body-F, fold-Body, out-Body, 
 use Rattle.av_printer.specs.declared.form.Form.TheVariants as forms
 use Rattle.av_printer.specs.Dictionaries.{in_order}
 use Rattle.av_printer.specs.Expressions.{from}
-use Rattle.av_printer.specs.Operations.{results_before, properties_behind, marks_behind}
+use Rattle.av_printer.specs.Operations.{properties_behind, marks_behind}
 use Rattle.av_printer.specs.Spelling.{pieces_of}
 use Rattle.av_values.specs.declared.value.Value.TheVariants as value
 use Rattle.av_values.specs.Forms.{completed}
@@ -43,11 +42,6 @@ pub data IsKnownType : Option TypeText → Type 0 where
 -- nothing is put into an operation without names of results: if it is a branch, its second region has a terminator
 abbrev pub IsComplete : Node → Type 0
 IsComplete node = (out-Node node).results ≡ [] → completed node ≡ node
-
--- the names of results before an operation that has some
-abbrev pub ResultsLaw : Type 0
-ResultsLaw = (most : ℕ) (first : List ℕ) (others : List (List ℕ)) → All IsNameOfResults (first ∷ others)
-    → Gives most (symbol.Rows (name.Value values_name.Results) ∷ []) (results_before (first ∷ others)) (value.Texts (reverse (first ∷ others)) ∷ [])
 
 -- dictionaries behind operations, which are read in order of name
 abbrev pub PropertiesLaw : Type 0
