@@ -1,8 +1,8 @@
 -- Maps, properties and marks of sound programs can be read again.
 use Rattle.std.proofs.Common.{◌≡◌, ℕ, suc, ◌+◌, ◌^◌, ◌<◌, ◌≤◌, List, [], ◌∷◌, ◌++◌, map, refl, sym, subst, ap, ◌∙◌, arith}
-use Rattle.std.specs.Prelude.{ℤ, pos, negsuc, unsigned_abs, count_by, codes, decimal}
+use Rattle.std.specs.Prelude.{ℤ, pos, negsuc, unsigned_abs, count_by, replicate, codes, decimal}
 use Rattle.std.specs.List.{All}
-use Rattle.std.proofs.lemmas.List.Elements.{All-nil, All-cons, All-head, All-tail}
+use Rattle.std.proofs.lemmas.List.Elements.{All-nil, All-cons, All-head, All-tail, All-replicate}
 use Rattle.av_lex.specs.declared.token.Sign.TheVariants as signs
 use Rattle.av_bits.specs.declared.types.Width.TheVariants.{W32, W64}
 use Rattle.av_ir.specs.declared.ty.Elem.TheVariants.{Int, Index}
@@ -63,32 +63,32 @@ result_pieces-are (plus z) = ap (λ (p : Part). p.pieces) (of-add plain (expr.Na
 result_pieces-are (minus z) = ap (λ (p : Part). p.pieces) (of-sub plain (expr.Name dimension) (expr.Const z)) ∙ two_parts (sign signs.Minus) z
 
 -- the signs among its words
-abbrev signs_of : List Piece → ℕ
-signs_of ps = count_by (λ (word : Word). is_calculation (class_of_word word)) (words_of ps)
+abbrev signs_among : List Piece → ℕ
+signs_among ps = count_by (λ (word : Word). is_calculation (class_of_word word)) (words_of ps)
 
-few_signs : (at : Subscript) → signs_of (result_pieces at) ≤ 2
+few_signs : (at : Subscript) → signs_among (result_pieces at) ≤ 2
 unfolding keywords words_of space token sign number
-few_signs (fixed (pos n)) = let e : signs_of (result_pieces (fixed (pos n))) ≡ 0 = digits_none (decimal n) 0 in omega arith
-few_signs (fixed (negsuc n)) = let e : signs_of (result_pieces (fixed (negsuc n))) ≡ 1 = digits_none (decimal (suc n)) 1 in omega arith
+few_signs (fixed (pos n)) = let e : signs_among (result_pieces (fixed (pos n))) ≡ 0 = digits_none (decimal n) 0 in omega arith
+few_signs (fixed (negsuc n)) = let e : signs_among (result_pieces (fixed (negsuc n))) ≡ 1 = digits_none (decimal (suc n)) 1 in omega arith
 few_signs variable = omega arith
-few_signs (plus (pos n)) = let e : signs_of (result_pieces (plus (pos n))) ≡ 1 = digits_none (decimal n) 1 in omega arith
-few_signs (plus (negsuc n)) = let e : signs_of (result_pieces (plus (negsuc n))) ≡ 2 = digits_none (decimal (suc n)) 2 in omega arith
-few_signs (minus (pos n)) = let e : signs_of (result_pieces (minus (pos n))) ≡ 1 = digits_none (decimal n) 1 in omega arith
-few_signs (minus (negsuc n)) = let e : signs_of (result_pieces (minus (negsuc n))) ≡ 2 = digits_none (decimal (suc n)) 2 in omega arith
+few_signs (plus (pos n)) = let e : signs_among (result_pieces (plus (pos n))) ≡ 1 = digits_none (decimal n) 1 in omega arith
+few_signs (plus (negsuc n)) = let e : signs_among (result_pieces (plus (negsuc n))) ≡ 2 = digits_none (decimal (suc n)) 2 in omega arith
+few_signs (minus (pos n)) = let e : signs_among (result_pieces (minus (pos n))) ≡ 1 = digits_none (decimal n) 1 in omega arith
+few_signs (minus (negsuc n)) = let e : signs_among (result_pieces (minus (negsuc n))) ≡ 2 = digits_none (decimal (suc n)) 2 in omega arith
 
 short_numbers : (at : Subscript) → IsSoundSubscript at → HasShortNumbers (result_of at)
 short_numbers (fixed z) sound = expressions.number z (short_integer z (omega (arith, sound)))
-short_numbers variable sound = expressions.named dimension
+short_numbers variable sound = expressions.named dimension tt
 short_numbers (plus z) sound =
-    expressions.sum (expr.Name dimension) (expr.Const z) (expressions.named dimension) (expressions.number z (short_integer z (omega (arith, sound))))
+    expressions.sum (expr.Name dimension) (expr.Const z) (expressions.named dimension tt) (expressions.number z (short_integer z (omega (arith, sound))))
 short_numbers (minus z) sound =
-    expressions.difference (expr.Name dimension) (expr.Const z) (expressions.named dimension) (expressions.number z (short_integer z (omega (arith, sound))))
+    expressions.difference (expr.Name dimension) (expr.Const z) (expressions.named dimension tt) (expressions.number z (short_integer z (omega (arith, sound))))
 
 -- ---- maps
 module _ {most : ℕ} (two : 2 ≤ most) where
   whole_result : (at : Subscript) → IsSoundSubscript at → All (IsExpression most) (result_of at ∷ [])
   whole_result at sound =
-      let e : signs_in (result_of at) ≡ signs_of (result_pieces at) = ap signs_of (result_pieces-are at) in
+      let e : signs_in (result_of at) ≡ signs_among (result_pieces at) = ap signs_among (result_pieces-are at) in
       All-cons (IsExpression most) (result_of at) [] (record { numbers = short_numbers at sound; few = omega (arith, few_signs at) }) (All-nil (IsExpression most))
 
   whole_map : (at : Subscript) → IsSoundSubscript at → IsMap most (subscript_map at)
@@ -113,6 +113,11 @@ module _ {most : ℕ} {rest : List Named} (others : AreEntries most rest) where
   map_more : 2 ≤ most → (word : List ℕ) (at : Subscript) → IsSoundSubscript at → AreEntries most (map_entry word (subscript_map at) ∷ rest)
   map_more two word at sound = plain_more word _ (attributes.mapped (subscript_map at) (whole_map two at sound))
 
+zeros_short : (count : ℕ) → All IsShortInteger (replicate count (pos 0))
+zeros_short count =
+    let short : IsShortInteger (pos 0) = omega arith in
+    All-replicate IsShortInteger count (pos 0) short
+
 module _ {most : ℕ} where
   pub whole_mark : (word : List ℕ) (n : ℕ) → n < 2 ^ 64 → AreEntries most (mark word n)
   whole_mark word n few = number_more no_entries word (codes "i64") (pos n) (class-elem (Int W64)) (omega arith)
@@ -123,18 +128,13 @@ module _ {most : ℕ} where
   pub whole_access : 2 ≤ most → (at : Subscript) → IsSoundSubscript at → AreEntries most (map_entry (codes "map") (subscript_map at) ∷ [])
   whole_access two at sound = map_more no_entries two (codes "map") at sound
 
-  zeros_short : All IsShortInteger (pos 0 ∷ pos 0 ∷ pos 0 ∷ [])
-  zeros_short =
-      let short : IsShortInteger (pos 0) = omega arith in
-      All-cons IsShortInteger (pos 0) _ short (All-cons IsShortInteger (pos 0) _ short (All-cons IsShortInteger (pos 0) _ short (All-nil IsShortInteger)))
-
   pub whole_loop : 2 ≤ most → (lower upper : ℤ) → IsBound lower → IsBound upper → AreEntries most (loop_properties lower upper)
   whole_loop two lower upper low high =
       plain_more
       (number_more
       (map_more (map_more no_entries two (codes "upperBoundMap") (fixed upper) high) two (codes "lowerBoundMap") (fixed lower) low)
       (codes "step") (codes "index") (pos 1) (class-elem Index) (omega arith))
-      (codes "operandSegmentSizes") _ (attributes.array (text.Scalar (codes "i32")) _ (scalar (codes "i32") (class-elem (Int W32))) zeros_short)
+      (codes "operandSegmentSizes") _ (attributes.array (text.Scalar (codes "i32")) _ (scalar (codes "i32") (class-elem (Int W32))) (zeros_short 3))
 
 -- ---- the properties of a function
 buffer_types : (sizes : List ℕ) → AreSmall sizes → All IsType (map (λ size. type_of (buffer size)) sizes)
