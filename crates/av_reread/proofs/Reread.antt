@@ -1,5 +1,5 @@
 -- The words that are printed for a sound program, in either form, are read as its tree.
-use Rattle.std.proofs.Common.{List, [], ◌∷◌, sym, ap}
+use Rattle.std.proofs.Common.{[], ◌∷◌, sym, ap}
 use Rattle.av_tree.specs.declared.node.Node.{Node}
 use Rattle.av_printer.specs.declared.form.Form.TheVariants as forms
 use Rattle.av_values.specs.declared.value.Value.TheVariants as value

@@ -1,6 +1,6 @@
 -- Maps, properties and marks of sound programs can be read again.
-use Rattle.std.proofs.Common.{◌≡◌, ℕ, suc, ◌+◌, ◌^◌, ◌<◌, ◌≤◌, List, [], ◌∷◌, ◌++◌, map, refl, sym, subst, ap, ◌∙◌, arith}
-use Rattle.std.specs.Prelude.{ℤ, pos, negsuc, unsigned_abs, count_by, replicate, codes, decimal}
+use Rattle.std.proofs.Common.{◌≡◌, ℕ, suc, ◌+◌, ◌^◌, ◌<◌, ◌≤◌, List, [], ◌∷◌, ◌++◌, map, sym, subst, ap, ◌∙◌, arith}
+use Rattle.std.specs.Prelude.{ℤ, pos, negsuc, count_by, replicate, codes, decimal}
 use Rattle.std.specs.List.{All}
 use Rattle.std.proofs.lemmas.List.Elements.{All-nil, All-cons, All-head, All-tail, All-replicate}
 use Rattle.av_lex.specs.declared.token.Sign.TheVariants as signs
@@ -10,7 +10,6 @@ use Rattle.av_tree.specs.declared.attribute.Attr.{Attr}
 use Rattle.av_tree.specs.declared.attribute.Named.{Named, Named-F, out-roll-Named}
 use Rattle.av_tree.specs.declared.written.ExprText.{ExprText}
 use Rattle.av_tree.specs.declared.written.ExprText.TheVariants as expr
-use Rattle.av_tree.specs.declared.written.TypeText.{TypeText}
 use Rattle.av_tree.specs.declared.written.TypeText.TheVariants as text
 use Rattle.av_derive.specs.ClassOf.{keywords}
 use Rattle.av_printer.specs.Pieces.{Piece, space, token, sign, plain, spaced}
@@ -20,7 +19,7 @@ use Rattle.av_totree.specs.Constants.{signed_low}
 use Rattle.av_totree.specs.Types.{type_of}
 use Rattle.av_plain.specs.Programs.{Subscript, fixed, variable, plus, minus, Program}
 use Rattle.av_plain.specs.Walks.{buffer}
-use Rattle.av_plain.specs.WrittenTrees.{entry, number_of, mark, constant_attr, dimension, map_entry, subscript_map, bound_map, loop_properties, function_properties}
+use Rattle.av_plain.specs.WrittenTrees.{entry, number_of, mark, constant_attr, dimension, map_entry, subscript_map, loop_properties, function_properties}
 use Rattle.av_plain.specs.Sound.{IsBound, IsSoundSubscript}
 use Rattle.av_written.specs.Spacing.{words_of}
 use Rattle.av_written.specs.ReadExpressions.{IsShortInteger}

@@ -1,5 +1,5 @@
 -- The tree that is printed for a sound program is whole, and it is read as the tree of its generic form.
-use Rattle.std.proofs.Common.{◌≡◌, ℕ, ◌+◌, ◌^◌, ◌<◌, ◌≤◌, false, List, [], ◌∷◌, map, length, refl, sym, subst, ap, ◌∙◌, arith}
+use Rattle.std.proofs.Common.{◌≡◌, ℕ, ◌+◌, ◌^◌, ◌<◌, ◌≤◌, false, List, [], ◌∷◌, map, refl, sym, subst, ap, ◌∙◌, arith}
 use Rattle.std.specs.Prelude.{ℤ, Some, Option, codes}
 use Rattle.std.specs.Str.{bytes_eq}
 use Rattle.std.specs.List.{All}
@@ -20,11 +20,11 @@ use Rattle.av_plain.specs.Programs.{Line, constant, sum, load, store, Step, sing
 use Rattle.av_plain.specs.Walks.{Place, element, buffer, type_at, name_at, next, after_line, after_lines, inside, after_step, after_steps, with_argument, after_buffers, first_place, body_place}
 use Rattle.av_plain.specs.Modules.{subscript_values}
 use Rattle.av_plain.specs.WrittenTrees as written
-use Rattle.av_plain.specs.WrittenTrees.{entry, mark, constant_attr, map_entry, subscript_map, next_name, constant_node, end_node, argument, loop_body, arguments, function_properties, outer_node, written_tree}
+use Rattle.av_plain.specs.WrittenTrees.{mark, next_name, constant_node, end_node, argument, loop_body, arguments, function_properties, outer_node, written_tree}
 use Rattle.av_plain.specs.ReadTrees as read
 use Rattle.av_plain.specs.ReadTrees.{read_tree}
 use Rattle.av_plain.specs.Sound.{IsSound, IsSoundLine, AreSoundLines, IsSoundStep, AreSoundSteps, visible_after, visible_behind}
-use Rattle.av_round_trip.specs.Types.{IsType, IsNameOfValue}
+use Rattle.av_round_trip.specs.Types.{IsNameOfValue}
 use Rattle.av_round_trip.specs.Attributes.{AreEntries, no_entries}
 use Rattle.av_round_trip.specs.Trees.{IsNameOfResults, IsKnownType, known, IsComplete, IsWholeLine, IsWholeArg, IsWhole, AreWholeBodies, AreWholeNodes, node, no_bodies, one_body_more, no_nodes, one_node_more, as_read, body_as_read}
 use Rattle.av_round_trip.proofs.ReadNodes.{layer_as_read, as_read-is, body_as_read-is}
