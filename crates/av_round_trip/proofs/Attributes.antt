@@ -26,8 +26,6 @@ use Rattle.av_tree.specs.declared.table.Rule.TheVariants as rule
 use Rattle.av_tree.specs.declared.table.attributes.AttributeName.{AttributeName}
 use Rattle.av_tree.specs.declared.table.attributes.AttributeName.TheVariants as attributes_name
 use Rattle.av_tree.specs.declared.table.attributes.AttributeRule.TheVariants as attributes_rule
-use Rattle.av_tree.specs.declared.table.maps.MapName.TheVariants as maps_name
-use Rattle.av_tree.specs.declared.table.maps.MapRule.TheVariants as maps_rule
 use Rattle.av_tree.specs.declared.table.values.ValueName.TheVariants as values_name
 use Rattle.av_tree.specs.declared.table.values.ValueRule.TheVariants as values_rule
 use Rattle.av_tree.specs.Classes.{fits_of}
@@ -48,7 +46,7 @@ use Rattle.av_round_trip.specs.Expressions.{IsMap, IsSet, MapsLaw, SetsLaw}
 use Rattle.av_round_trip.specs.Attributes as part
 use Rattle.av_round_trip.specs.Attributes.{IsElement, IsAttribute, AreAttributes, IsEntryValue, AreEntries, AttributesLaw, no_attributes, one_attribute_more, no_entries, one_entry_more}
 use Rattle.av_round_trip.proofs.Giving.{none, join, given_as, given_row, given_sign, given_spaced, given_word, given_token, given_colon, given_round, given_square, given_curly, reverse-first, Every, every-all, ListRows, given_behind, given_commas}
-use Rattle.av_round_trip.proofs.Expressions.{word-fits}
+use Rattle.av_round_trip.proofs.Maps.{given_names}
 use Rattle.av_round_trip.proofs.Quotes.{in_quotes, unquoted-is, quoted_fits}
 use Rattle.av_round_trip.proofs.WordTests.{by_name, by_hash, class-function_type, class-array, class-dense}
 use Rattle.av_round_trip.proofs.Elements.{is_true-word, given_truth, given_element}
@@ -70,10 +68,6 @@ an_attribute = rows_of attributes_name.Attribute
 
 abbrev an_entry : List Symbol
 an_entry = rows_of attributes_name.Entry
-
-each_word : (most : ℕ) (words : List (List ℕ)) → Every most (symbol.Token test.Word ∷ []) plain (λ (bytes : List ℕ). value.Text bytes ∷ []) words
-each_word most [] = tt
-each_word most (word ∷ words) = (given_token test.Word kinds.Word word (word-fits word), each_word most words)
 
 module _ {most : ℕ} where
   given_truth_attribute : (b : Bool) → Gives most an_attribute (truth b) (value.Attr (attr.Bool b) ∷ [])
@@ -114,15 +108,6 @@ module _ {most : ℕ} where
       (λ is. given_alone bytes (of_class test.AliasOnly _ class.HashDigits is refl)) (given_bare bytes)
       (λ is. given_alone bytes (of_class test.AliasOnly _ class.HashOther is refl)) bytes refl
 
-  word_rows : ListRows most (symbol.Token test.Word ∷ []) (name.Map maps_name.Words) (name.Map maps_name.MoreWords) (λ (bytes : List ℕ). value.Text bytes ∷ []) value.Texts
-  unfolding replaced on_top
-  word_rows = record {
-    no_front = given_row (rule.Map maps_rule.NoWords) refl tt none refl;
-    no_more = given_row (rule.Map maps_rule.NoMoreWords) refl tt none refl;
-    first = λ x xs inner. given_row (rule.Map maps_rule.FirstWord) refl tt inner refl;
-    next = λ x xs inner. given_row (rule.Map maps_rule.NextWord) refl tt inner refl;
-  }
-
   integer_rows : ListRows most (symbol.Rows (name.Value values_name.Integer) ∷ []) (name.Value values_name.Integers) (name.Value values_name.MoreIntegers)
       (λ (z : ℤ). value.Number z ∷ []) value.Numbers
   unfolding replaced on_top
@@ -141,7 +126,7 @@ module _ {most : ℕ} where
       (given_row (rule.Attribute attributes_rule.HashAttribute) refl tt
       (join (given_token test.HashWord kinds.HashId bytes (of_class test.HashWord _ class.HashWord is refl))
       (given_row (rule.Attribute attributes_rule.WrittenHashWords) refl tt
-      (join (join (given_sign signs.OpenAngle) (given_commas word_rows plain words (each_word most words))) (given_sign signs.CloseAngle)) refl))
+      (join (join (given_sign signs.OpenAngle) (given_names words)) (given_sign signs.CloseAngle)) refl))
       (ap (λ (ws : List (List ℕ)). Some (value.Attr (attr.Hash bytes ws) ∷ [])) (reverse-reverse words)))
 
   -- ---- lists and dictionaries

@@ -82,7 +82,7 @@ module _ {most : ℕ} where
     next = λ word others inner. given_row (rule.Map maps_rule.NextWord) refl tt inner refl;
   }
 
-  given_names : (texts : List (List ℕ)) → Gives most (rows maps_name.Words ∷ []) (commas (map plain texts)) (value.Texts (reverse texts) ∷ [])
+  pub given_names : (texts : List (List ℕ)) → Gives most (rows maps_name.Words ∷ []) (commas (map plain texts)) (value.Texts (reverse texts) ∷ [])
   given_names texts = given_commas word_rows plain texts (every_word most texts)
 
   given_symbols : (syms : List (List ℕ)) → Gives most (rows maps_name.SymbolNames ∷ []) (square_if_any (map plain syms)) (value.Texts (reverse syms) ∷ [])
