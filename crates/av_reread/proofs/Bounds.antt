@@ -1,6 +1,6 @@
 -- The numbers of a sound program are small enough to be read.
 use Rattle.std.proofs.Common.{◌≡◌, ℕ, zero, suc, ◌+◌, ◌-◌, ◌^◌, ◌<◌, ◌≤◌, List, [], ◌∷◌, ◌++◌, length, get_or, refl, sym, ◌∙◌, inl, inr, arith}
-use Rattle.std.specs.Prelude.{ℤ, unsigned_abs}
+use Rattle.std.specs.Prelude.{ℤ, pos, negsuc, unsigned_abs}
 use Rattle.std.proofs.lemmas.Bool.{cases_lt}
 use Rattle.std.proofs.lemmas.Bool.Decides.{nat_tests}
 use Rattle.std.proofs.lemmas.Int.{ints}
@@ -14,10 +14,19 @@ use Rattle.av_totree.specs.Constants.{signed_low}
 use Rattle.av_plain.specs.Programs.{Subscript, fixed, variable, plus, minus, Line, constant, sum, load, store, Step, single, counted}
 use Rattle.av_plain.specs.Walks.{Place, element, buffer, type_at, passed, with_result, with_argument, after_line, after_lines, inside, after_step, after_steps}
 use Rattle.av_plain.specs.Sound.{IsSoundSubscript}
+use Rattle.av_written.specs.ReadExpressions.{IsShortInteger}
 use Rattle.av_reread.proofs.Subscripts.{IsReadSubscript}
 
 pub small_constant : (pattern : ℕ) → unsigned_abs (signed_low W32 pattern) < 2 ^ 127
 small_constant pattern = grind (arith, nat_tests, ints)
+
+-- a number of fewer than 127 bits has at most 38 digits
+pub short_integer : (z : ℤ) → unsigned_abs z ≤ 2 ^ 126 → IsShortInteger z
+short_integer (pos n) h = omega arith
+short_integer (negsuc n) h = omega arith
+
+pub short_constant : (pattern : ℕ) → IsShortInteger (signed_low W32 pattern)
+short_constant pattern = short_integer (signed_low W32 pattern) (grind (arith, nat_tests, ints))
 
 pub read_subscript : (at : Subscript) → IsSoundSubscript at → IsReadSubscript at
 read_subscript (fixed z) sound = omega arith

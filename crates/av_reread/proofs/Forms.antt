@@ -29,7 +29,7 @@ use Rattle.av_plain.specs.Walks.{buffer}
 use Rattle.av_plain.specs.WrittenTrees.{entry, mark}
 use Rattle.av_again.specs.Making.{Makes, nothing, by_sign, by_word, by_token, by_row}
 use Rattle.av_reread.proofs.Parts.{made_integer, made_value, made_scalar, made_buffer, buffer_words, made_mark, class-elem}
-use Rattle.av_reread.proofs.Following.{followed, row, respelled, revalued}
+use Rattle.av_round_trip.proofs.Following.{followed, row, respelled, revalued}
 use Rattle.av_reread.proofs.Subscripts.{IsReadSubscript, made_subscripts}
 use Rattle.av_reread.proofs.Nodes.{layer, constant-is, binary-is, access_layer, load-is, store-is}
 use Rattle.av_reread.proofs.ProgramWords.{plain_word, type_words, constant_words, sum_words, load_words, store_words}

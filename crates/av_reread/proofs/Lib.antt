@@ -1,6 +1,4 @@
-pub mod Decimals
 pub mod Parts
-pub mod Following
 pub mod Subscripts
 pub mod Nodes
 pub mod ProgramWords
@@ -15,11 +13,7 @@ pub mod Saying
 pub mod SaidParts
 pub mod SaidLines
 pub mod SaidModules
-pub mod Giving
-pub mod GivenTypes
-pub mod GivenMaps
-pub mod GivenEntries
-pub mod GivenNodes
 pub mod PlainTypes
-pub mod GivenPrograms
+pub mod WholeParts
+pub mod WholePrograms
 pub mod Reread

@@ -20,7 +20,7 @@ use Rattle.av_plain.specs.WrittenTrees as written
 use Rattle.av_plain.specs.ReadTrees.{node, line_node, line_nodes}
 use Rattle.av_plain.specs.Sound.{IsSoundLine, AreSoundLines, visible_after}
 use Rattle.av_again.specs.Making.{Word, Makes}
-use Rattle.av_reread.proofs.Following.{revalued}
+use Rattle.av_round_trip.proofs.Following.{revalued}
 use Rattle.av_reread.proofs.Nodes.{layer, access_layer}
 use Rattle.av_reread.proofs.ProgramWords.{line_words, lines_words}
 use Rattle.av_reread.proofs.Forms.{constant_form, sum_form, load_form, store_form}

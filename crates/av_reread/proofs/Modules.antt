@@ -37,7 +37,7 @@ use Rattle.av_plain.specs.ReadTrees.{step_nodes, function_node, read_tree}
 use Rattle.av_plain.specs.Sound.{IsSound}
 use Rattle.av_again.specs.Making.{Word, Makes, nothing, by_sign, by_word, by_token, by_row}
 use Rattle.av_reread.proofs.Parts.{sign_word, made_buffer}
-use Rattle.av_reread.proofs.Following.{followed, row, closed, respelled}
+use Rattle.av_round_trip.proofs.Following.{followed, row, closed, respelled}
 use Rattle.av_reread.proofs.Nodes.{via, plain-is}
 use Rattle.av_reread.proofs.ProgramWords.{argument_words, arguments_words, more_arguments_words, function_words, steps_words, program_words}
 use Rattle.av_reread.proofs.Forms.{Form, buffer_words-is}

@@ -22,7 +22,7 @@ use Rattle.av_values.specs.Loops.{ended, ends_region, terminated}
 use Rattle.av_values.specs.declared.value.Value.TheVariants as value
 use Rattle.av_again.specs.Making.{Word, Makes, nothing, by_sign, by_token, by_row}
 use Rattle.av_reread.proofs.Parts.{sign_word}
-use Rattle.av_reread.proofs.Following.{followed, row}
+use Rattle.av_round_trip.proofs.Following.{followed, row}
 use Rattle.av_reread.proofs.Nodes.{bare, named-is, terminator-is}
 use Rattle.av_reread.proofs.ProgramWords.{plain_word, value_word, result_words}
 use Rattle.av_reread.proofs.Forms.{Form}

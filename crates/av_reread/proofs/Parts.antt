@@ -31,7 +31,7 @@ use Rattle.av_values.specs.declared.value.Value.TheVariants as value
 use Rattle.av_totree.specs.Types.{elem_name}
 use Rattle.av_plain.specs.WrittenTrees.{mark}
 use Rattle.av_again.specs.Making.{Word, class_of_word, Makes, nothing, by_sign, by_word, by_token, by_row}
-use Rattle.av_reread.proofs.Decimals.{integer-positive, integer-negative, size-decimal}
+use Rattle.av_round_trip.proofs.Decimals.{integer-positive, integer-negative, size-decimal}
 use Rattle.av_tree.specs.Classes.{fits_of}
 
 abbrev pub sign_word : Sign → Word

@@ -14,6 +14,8 @@ use Rattle.av_plain.specs.Programs.{Line, constant, sum, load, store, Step, sing
 use Rattle.av_plain.specs.Walks.{Place, name_at, passed, with_result, with_argument, after_line, after_lines, inside, after_step, after_buffers, element, buffer, type_at}
 use Rattle.av_ir.specs.declared.ty.Elem.TheVariants.{Index}
 use Rattle.av_ir.specs.declared.ty.Ty.TheVariants.{Scalar}
+use Rattle.av_round_trip.specs.Types.{IsResultNumber, IsNameOfValue}
+use Rattle.av_round_trip.specs.Trees.{IsResultCount, IsNameOfResults}
 
 -- none of the bytes is this mark
 abbrev IsWithout : ℕ → List ℕ → Type 0
@@ -86,6 +88,13 @@ unfolding how_many token
 result_is text h =
     ap (λ b. token kinds.ValId b ++ how_many (from 58 text)) (before_none 58 text h.no_colon)
     ∙ ap (λ f. token kinds.ValId text ++ how_many f) (from_none 58 text h.no_colon)
+
+-- where they are used and where they are made, nothing stands behind them
+pub plain_use : (text : List ℕ) → IsPlainName text → IsNameOfValue text
+plain_use text h = subst (λ (behind : List ℕ). IsResultNumber behind) (sym (from_none 35 text h.no_hash)) tt
+
+pub plain_result : (text : List ℕ) → IsPlainName text → IsNameOfResults text
+plain_result text h = subst (λ (behind : List ℕ). IsResultCount behind) (sym (from_none 58 text h.no_colon)) tt
 
 -- ---- names of places
 abbrev pub HasPlain : Place → Type 0

@@ -1,23 +1,42 @@
 -- The types of the values of a program are scalars and buffers, along its text.
 use Rattle.std.proofs.Common.{ℕ, zero, suc, ◌+◌, ◌-◌, ◌^◌, ◌<◌, List, [], ◌∷◌, ◌++◌, length, get_or, refl, sym, subst, inl, inr, arith}
+use Rattle.std.specs.Prelude.{None, codes}
 use Rattle.std.specs.List.{All}
 use Rattle.std.proofs.lemmas.Bool.{cases_lt}
 use Rattle.std.proofs.lemmas.List.{get_or_append_left, get_or-append_right}
+use Rattle.std.proofs.lemmas.List.Elements.{All-nil, All-cons}
 use Rattle.av_ir.specs.declared.ty.Elem.TheVariants.{Int, Index}
 use Rattle.av_bits.specs.declared.types.Width.TheVariants.{W32}
 use Rattle.av_ir.specs.declared.ty.Ty.{Ty}
 use Rattle.av_ir.specs.declared.ty.Ty.TheVariants.{Scalar}
 use Rattle.av_plain.specs.Programs.{Line, constant, sum, load, store, Step, single, counted}
 use Rattle.av_plain.specs.Walks.{Place, element, buffer, type_at, passed, with_result, with_argument, after_line, after_lines, inside, after_step, after_buffers, first_place}
-use Rattle.av_reread.proofs.GivenTypes.{IsPlainType, scalar_type, buffer_type}
+use Rattle.av_ir.specs.declared.ty.Elem.{Elem}
+use Rattle.av_tree.specs.declared.written.SizeText.TheVariants as sizes
+use Rattle.av_totree.specs.Types.{type_of, elem_name}
+use Rattle.av_written.specs.ReadTypes.{IsShortSize}
+use Rattle.av_round_trip.specs.Types.{IsType, scalar, mem_ref}
+use Rattle.av_reread.proofs.Parts.{class-elem}
+
+-- a type that is printed and read again as itself
+abbrev pub IsPlainType : Ty → Type 0
+IsPlainType ty = IsType (type_of ty)
+
+pub scalar_type : (elem : Elem) → IsPlainType (Scalar elem)
+scalar_type elem = scalar (elem_name elem) (class-elem elem)
+
+pub buffer_type : (size : ℕ) → size < 2 ^ 31 → IsPlainType (buffer size)
+buffer_type size small =
+    let short : IsShortSize (sizes.Fixed size) = omega arith in
+    mem_ref (sizes.Fixed size ∷ []) (codes "i32") None (All-cons IsShortSize (sizes.Fixed size) [] short (All-nil IsShortSize)) (class-elem (Int W32)) tt
 
 abbrev pub HasPlainTypes : Place → Type 0
 HasPlainTypes place = (v : ℕ) → IsPlainType (type_at place v)
 
-index_type : IsPlainType (Scalar Index)
+pub index_type : IsPlainType (Scalar Index)
 index_type = scalar_type Index
 
-element_type : IsPlainType element
+pub element_type : IsPlainType element
 element_type = scalar_type (Int W32)
 
 types_last : (ty : Ty) → IsPlainType ty → (i : ℕ) → IsPlainType (get_or (ty ∷ []) i (Scalar Index))
@@ -64,7 +83,7 @@ unfolding after_step
 types-step (single pattern) place all = types-result element place all element_type
 types-step (counted lower upper lines) place all = types-passed (after_lines lines (inside place)) (types-lines lines (inside place) (types-inside place all))
 
-abbrev AreSmall : List ℕ → Type 0
+abbrev pub AreSmall : List ℕ → Type 0
 AreSmall sizes = All (λ (size : ℕ). size < 2 ^ 31) sizes
 
 pub types-buffers : (sizes : List ℕ) (place : Place) → AreSmall sizes → HasPlainTypes place → HasPlainTypes (after_buffers sizes place)

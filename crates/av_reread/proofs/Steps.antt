@@ -32,7 +32,7 @@ use Rattle.av_plain.specs.ReadTrees.{node, line_nodes, loop_properties, step_nod
 use Rattle.av_plain.specs.Sound.{AreSoundLines, IsSoundStep, AreSoundSteps, visible_behind}
 use Rattle.av_again.specs.Making.{Word, Makes, nothing, by_sign, by_word, by_token, by_row}
 use Rattle.av_reread.proofs.Parts.{sign_word, number_words, mark_words, made_integer, made_mark}
-use Rattle.av_reread.proofs.Following.{followed, row, closed, respelled, revalued}
+use Rattle.av_round_trip.proofs.Following.{followed, row, closed, respelled, revalued}
 use Rattle.av_reread.proofs.Nodes.{bare, via, plain-is}
 use Rattle.av_reread.proofs.ProgramWords.{loop_words, lines_words, step_words, steps_words}
 use Rattle.av_reread.proofs.Forms.{Form, constant_form}

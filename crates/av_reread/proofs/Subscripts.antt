@@ -18,9 +18,9 @@ use Rattle.av_values.specs.declared.value.Expression.{Expression}
 use Rattle.av_values.specs.declared.value.LeafKind.TheVariants.{Dimension}
 use Rattle.av_plain.specs.Programs.{Subscript, fixed, variable, plus, minus}
 use Rattle.av_again.specs.Making.{Word, class_of_word, is_calculation, Makes, nothing, by_sign, by_token}
-use Rattle.av_reread.proofs.Decimals.{integer-positive, integer-negative}
+use Rattle.av_round_trip.proofs.Decimals.{integer-positive, integer-negative}
 use Rattle.av_reread.proofs.Parts.{sign_word, number_words, number_fits, made_value}
-use Rattle.av_reread.proofs.Following.{followed, row, closed}
+use Rattle.av_round_trip.proofs.Following.{followed, row, closed}
 
 abbrev pub subscript_words : List ℕ → Subscript → List Word
 subscript_words name (fixed z) = number_words z
@@ -55,7 +55,7 @@ either_none : (b : Bool) (n : ℕ) → n + cond (is_calculation (if b then class
 either_none true n = omega arith
 either_none false n = omega arith
 
-digits_none : (digits : List ℕ) (n : ℕ) → n + cond (is_calculation (class_of_word (kinds.Number, digits))) 1 0 ≡ n
+pub digits_none : (digits : List ℕ) (n : ℕ) → n + cond (is_calculation (class_of_word (kinds.Number, digits))) 1 0 ≡ n
 digits_none digits n = either_none (list_all (λ digit. digit == 48) digits) n
 
 few_signs : (text : List ℕ) (at : Subscript) → signs (subscript_words text at) ≤ 2
