@@ -73,9 +73,9 @@ module _ {most : ℕ} where
       let out = out-roll-Body layer in
       record {
         whole = one_body_more (roll-Body layer) [] (subst (λ (b : Body-F Body Node). All IsWholeArg b.args) (sym out) plain)
-        (subst (λ (b : Body-F Body Node). AreWholeNodes most b.nodes) (sym out) inner.whole) no_bodies;
+            (subst (λ (b : Body-F Body Node). AreWholeNodes most b.nodes) (sym out) inner.whole) no_bodies;
         are = ap (λ (b : Body). b ∷ [])
-        (body_as_read-is (roll-Body layer) ∙ ap (λ (b : Body-F Body Node). region b.args (map as_read b.nodes)) out ∙ ap (region args) inner.are);
+            (body_as_read-is (roll-Body layer) ∙ ap (λ (b : Body-F Body Node). region b.args (map as_read b.nodes)) out ∙ ap (region args) inner.are);
       }
 
   -- an operation that is no branch
@@ -87,7 +87,7 @@ module _ {most : ℕ} where
         complete = λ none. completed-is (roll-Node x) (no_branch x other);
         whole = node (roll-Node x) (subst (IsWholeLine most) (sym out) line) (subst (λ (y : Node-F Body Node). AreWholeBodies most y.regions) (sym out) inner.whole);
         is = as_read-is (roll-Node x) ∙ ap (λ (y : Node-F Body Node). roll-Node (layer_as_read y)) out
-        ∙ ap (λ (bodies : List Body). roll-Node (record (layer_as_read x) { regions = bodies })) inner.are;
+            ∙ ap (λ (bodies : List Body). roll-Node (record (layer_as_read x) { regions = bodies })) inner.are;
       }
 
 -- ---- operations at a place

@@ -1,5 +1,5 @@
 -- The text of a module of nothing with marks, and what is read of it.
-use Rattle.std.proofs.Common.{◌≡◌, ℕ, zero, suc, ◌+◌, ◌<◌, ◌≤◌, ◌&&◌, Bool, true, false, List, [], ◌∷◌, ◌++◌, length, map, refl, sym, subst, ap, ◌∙◌, arith, lit≤, length-append}
+use Rattle.std.proofs.Common.{◌≡◌, ℕ, zero, suc, ◌<◌, ◌&&◌, Bool, true, false, List, [], ◌∷◌, ◌++◌, length, map, refl, sym, subst, ap, ◌∙◌, arith, lit≤, length-append}
 use Rattle.std.specs.Prelude.{slice_index, Option, codes}
 use Rattle.std.specs.List.{All, list_all}
 use Rattle.std.proofs.lemmas.List.Elements.{All-nil}
@@ -9,18 +9,18 @@ use Rattle.av_lex.specs.declared.class.Class.TheVariants as classes
 use Rattle.av_lex.specs.Bytes.{in_class, Run}
 use Rattle.av_tree.specs.declared.attribute.Attr.{Attr}
 use Rattle.av_tree.specs.declared.attribute.Attr as attrs
-use Rattle.av_tree.specs.declared.attribute.Named.{Named, Named-F, out-Named, out-roll-Named}
-use Rattle.av_tree.specs.declared.node.Node.{Node, Node-F, out-Node, roll-Node, out-roll-Node}
+use Rattle.av_tree.specs.declared.attribute.Named.{Named, Named-F, out-roll-Named}
+use Rattle.av_tree.specs.declared.node.Node.{Node, Node-F, roll-Node, out-roll-Node}
 use Rattle.av_tree.specs.declared.node.Body.{Body, Body-F, out-Body, roll-Body, out-roll-Body}
 use Rattle.av_derive.specs.ClassOf.{keywords}
 use Rattle.av_derive.specs.Derivation.{WithinBrackets}
 use Rattle.av_printer.specs.declared.form.Form.TheVariants as forms
-use Rattle.av_printer.specs.Pieces.{Piece, margin, spelt, space, new_line, token, sign, plain, comma, commas, behind, joined}
+use Rattle.av_printer.specs.Pieces.{Piece, margin, spelt, space, new_line, token, sign, plain, commas, joined}
 use Rattle.av_printer.specs.Types.{one_or_several}
 use Rattle.av_printer.specs.Attributes.{attr_of, assigned, entry_pieces}
 use Rattle.av_printer.specs.Dictionaries.{ordered_onto, inserted}
-use Rattle.av_printer.specs.Operations.{Head, first_of, head_of, results_before, common_line, common_end, quoted_name, values_in_round, values_pieces, properties_behind, marks_behind, signature, known_in_round, known_types, known_results}
-use Rattle.av_printer.specs.Spelling.{common_body, common_regions, label, node_line, operation_of, pieces_of, spelling}
+use Rattle.av_printer.specs.Operations.{Head, first_of, results_before, common_line, common_end, quoted_name, values_in_round, values_pieces, properties_behind, marks_behind, signature, known_in_round, known_types, known_results}
+use Rattle.av_printer.specs.Spelling.{common_body, common_regions, label, node_line, pieces_of, spelling}
 use Rattle.av_printer.proofs.NodeSteps.{common-of}
 use Rattle.av_written.specs.Spacing.{IsWord, words_of}
 use Rattle.av_written.specs.ReadAttributes as read_attributes
