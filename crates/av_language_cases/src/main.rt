@@ -1,5 +1,5 @@
-//! Compares the page docs/LANGUAGE.md, which is read from standard input, with the table of operations: the first column
-//! of its table of operations names each operation of av_dialects once, and nothing else.
+//! Compares the table of operations on the page docs/LANGUAGE.md, which is read from standard input (`tools/language` copies it there),
+//! with the table of the program: its first column names each operation of av_dialects once, and nothing else.
 #![tactic(auto)]
 
 mod page;

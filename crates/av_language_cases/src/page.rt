@@ -29,16 +29,23 @@ fn first_cell(line: &str) -> &str {
 }
 
 fn push_names(alloc: Global, names: &mut Vec<String>, cell: &str) -> Result<(), AllocError> {
-    let mut dialect = "";
     for part in cell.split(", ") {
-        let name = part.trim_matches('`');
-        match name.split_once('.') {
-            Some((before, _)) => {
-                dialect = before;
-                names.push(format!(in alloc; "{name}")?)?;
-            }
-            None => names.push(format!(in alloc; "{dialect}.{name}")?)?,
-        }
+        let name = whole_name(alloc, names.as_slice(), part.trim_matches('`'))?;
+        names.push(name)?;
     }
     Ok(())
+}
+
+fn whole_name(alloc: Global, before: &[String], name: &str) -> Result<String, AllocError> {
+    match before.last() {
+        Some(last) if !name.contains('.') => with_dialect_of(alloc, last.as_str(), name),
+        _ => format!(in alloc; "{name}"),
+    }
+}
+
+fn with_dialect_of(alloc: Global, other: &str, name: &str) -> Result<String, AllocError> {
+    match other.split_once('.') {
+        Some((dialect, _)) => format!(in alloc; "{dialect}.{name}"),
+        None => format!(in alloc; "{name}"),
+    }
 }
