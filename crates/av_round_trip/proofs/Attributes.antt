@@ -36,10 +36,10 @@ use Rattle.av_printer.specs.Attributes.{truth, typed, numbers_behind, quoted, ha
 use Rattle.av_values.specs.Nodes.{entry}
 use Rattle.av_values.specs.Sorts.{on_top, replaced}
 use Rattle.av_values.specs.declared.value.Value.TheVariants as value
-use Rattle.av_written.specs.ReadExpressions.{IsShortInteger}
-use Rattle.av_written.proofs.TypeParts.{type-func}
-use Rattle.av_written.proofs.AttrEquations.{attr-number, attr-bool, attr-quoted, attr-symbol, attr-aliasuse, attr-type, attr-map, attr-set, attr-hash, attr-list, attr-dictionary, attr-array, attr-dense, attr-unit, entry-opened}
-use Rattle.av_again.specs.Making.{class_of_word}
+use Rattle.av_print_laws.specs.ReadExpressions.{IsShortInteger}
+use Rattle.av_print_laws.proofs.TypeParts.{type-func}
+use Rattle.av_print_laws.proofs.AttrEquations.{attr-number, attr-bool, attr-quoted, attr-symbol, attr-aliasuse, attr-type, attr-map, attr-set, attr-hash, attr-list, attr-dictionary, attr-array, attr-dense, attr-unit, entry-opened}
+use Rattle.av_read_laws.specs.Making.{class_of_word}
 use Rattle.av_round_trip.specs.Giving.{Gives}
 use Rattle.av_round_trip.specs.Types.{IsType, a_type, TypesLaw, ManyTypesLaw, ResultTypesLaw, IntegersLaw}
 use Rattle.av_round_trip.specs.Expressions.{IsMap, IsSet, MapsLaw, SetsLaw}

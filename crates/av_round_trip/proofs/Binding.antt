@@ -18,8 +18,8 @@ use Rattle.av_values.specs.declared.value.Operator.{Operator}
 use Rattle.av_values.specs.declared.value.Operator.TheVariants as operator
 use Rattle.av_values.specs.declared.value.Part.{Part}
 use Rattle.av_values.specs.Expressions.{calculation, division_of, with_part, joined_left}
-use Rattle.av_written.specs.ReadExpressions.{IsShortInteger}
-use Rattle.av_again.specs.Making.{class_of_word}
+use Rattle.av_print_laws.specs.ReadExpressions.{IsShortInteger}
+use Rattle.av_read_laws.specs.Making.{class_of_word}
 use Rattle.av_round_trip.specs.Giving.{Gives}
 use Rattle.av_round_trip.specs.Expressions.{IsLegible, named, number as numbered, negation, sum, difference, product, remainder, floored, ceiled}
 use Rattle.av_round_trip.proofs.Giving.{join, given_as, ended}

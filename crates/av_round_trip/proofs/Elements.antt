@@ -16,7 +16,7 @@ use Rattle.av_printer.specs.Attributes.{truth, element_pieces}
 use Rattle.av_values.specs.Sorts.{on_top, replaced}
 use Rattle.av_values.specs.Spellings.{is_true}
 use Rattle.av_values.specs.declared.value.Value.TheVariants as value
-use Rattle.av_written.proofs.AttrEquations.{element-number, element-bool, element-list}
+use Rattle.av_print_laws.proofs.AttrEquations.{element-number, element-bool, element-list}
 use Rattle.av_round_trip.specs.Giving.{Gives}
 use Rattle.av_round_trip.specs.Types.{IntegersLaw}
 use Rattle.av_round_trip.specs.Attributes.{IsElement, AreElements, number_element, truth_element, list_element, no_elements, one_element_more}

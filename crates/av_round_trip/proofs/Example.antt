@@ -22,16 +22,16 @@ use Rattle.av_printer.specs.Dictionaries.{ordered_onto, inserted}
 use Rattle.av_printer.specs.Operations.{Head, first_of, results_before, common_line, common_end, quoted_name, values_in_round, values_pieces, properties_behind, marks_behind, signature, known_in_round, known_types, known_results}
 use Rattle.av_printer.specs.Spelling.{common_body, common_regions, label, node_line, pieces_of, spelling}
 use Rattle.av_printer.proofs.NodeSteps.{common-of}
-use Rattle.av_written.specs.Spacing.{IsWord, words_of}
-use Rattle.av_written.specs.ReadAttributes as read_attributes
-use Rattle.av_written.specs.ReadAttributes.{IsReadAttr, AreReadEntries}
-use Rattle.av_written.specs.ReadNodes as read_nodes
-use Rattle.av_written.specs.ReadNodes.{IsReadLine, IsReadNode, AreReadBodies, IsResult, IsReadTypeIf, IsReadArg}
-use Rattle.av_written.specs.ReadExpressions.{IsValue}
-use Rattle.av_written.proofs.AttrEquations.{attr-unit, entry-opened}
-use Rattle.av_written.proofs.Longest.{next, run_front}
-use Rattle.av_written.proofs.Words.{is_word}
-use Rattle.av_again.specs.Making.{class_of_word}
+use Rattle.av_print_laws.specs.Spacing.{IsWord, words_of}
+use Rattle.av_print_laws.specs.ReadAttributes as read_attributes
+use Rattle.av_print_laws.specs.ReadAttributes.{IsReadAttr, AreReadEntries}
+use Rattle.av_print_laws.specs.ReadNodes as read_nodes
+use Rattle.av_print_laws.specs.ReadNodes.{IsReadLine, IsReadNode, AreReadBodies, IsResult, IsReadTypeIf, IsReadArg}
+use Rattle.av_print_laws.specs.ReadExpressions.{IsValue}
+use Rattle.av_print_laws.proofs.AttrEquations.{attr-unit, entry-opened}
+use Rattle.av_print_laws.proofs.Longest.{next, run_front}
+use Rattle.av_print_laws.proofs.Words.{is_word}
+use Rattle.av_read_laws.specs.Making.{class_of_word}
 use Rattle.av_round_trip.specs.Types.{IsNameOfValue}
 use Rattle.av_round_trip.specs.Attributes.{IsEntryValue, AreEntries}
 use Rattle.av_round_trip.specs.Attributes as attributes

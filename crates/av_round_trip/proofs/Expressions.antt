@@ -27,8 +27,8 @@ use Rattle.av_values.specs.declared.value.Operator.{Operator}
 use Rattle.av_values.specs.declared.value.Operator.TheVariants as operator
 use Rattle.av_values.specs.declared.value.Part.{Part}
 use Rattle.av_values.specs.Expressions.{calculation, division_of, with_part, joined_left}
-use Rattle.av_written.specs.ReadExpressions.{IsShortInteger}
-use Rattle.av_again.specs.Making.{class_of_word}
+use Rattle.av_print_laws.specs.ReadExpressions.{IsShortInteger}
+use Rattle.av_read_laws.specs.Making.{class_of_word}
 use Rattle.av_round_trip.specs.Expressions.{IsExpression, ExpressionsLaw}
 use Rattle.av_round_trip.proofs.Decimals.{integer-positive, integer-negative}
 use Rattle.av_round_trip.proofs.Types.{number-fits}

@@ -55,7 +55,7 @@ use Rattle.av_values.specs.Expressions.{division_of, joined_left}
 use Rattle.av_parts.specs.rows.MapRows as parts_of
 use Rattle.av_reader.specs.Building as building
 use Rattle.av_reader.proofs.Typed.{put}
-use Rattle.av_again.specs.Making.{Word, class_of_word, Makes, nothing, by_sign, by_word, by_token, by_row}
+use Rattle.av_read_laws.specs.Making.{Word, class_of_word, Makes, nothing, by_sign, by_word, by_token, by_row}
 use Rattle.av_round_trip.specs.Expressions.{opens_round, brackets_in, bracket, FewestBracketsLaw, NeededBracketsLaw}
 use Rattle.av_round_trip.proofs.Pairs.{pairs, pairs-own, pairs-grow, pairs-one, pairs-name, pairs-const, pairs-neg, weight, weights, left-in_sum, left-in_product, joined-pairs}
 

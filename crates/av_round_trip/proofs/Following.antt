@@ -9,7 +9,7 @@ use Rattle.av_tree.specs.Table.{symbols_of, name_of}
 use Rattle.av_tree.specs.Signs.{begins_expression}
 use Rattle.av_values.specs.declared.value.Value.{Value}
 use Rattle.av_reader.specs.Building as building
-use Rattle.av_again.specs.Making.{Word, FewSigns, Makes, nothing, by_sign, by_word, by_token, by_row}
+use Rattle.av_read_laws.specs.Making.{Word, FewSigns, Makes, nothing, by_sign, by_word, by_token, by_row}
 
 -- symbols after others give their words after those of the others
 pub followed : {most : ℕ} {ss others : List Symbol} {ws behind : List Word} {vs under : List Value}

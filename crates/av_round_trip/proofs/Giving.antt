@@ -22,8 +22,8 @@ use Rattle.av_printer.specs.Pieces.{Piece, blank, line, word, space, new_line, t
 use Rattle.av_reader.specs.Building as building
 use Rattle.av_values.specs.declared.value.Value.{Value}
 use Rattle.av_values.specs.declared.value.Value.TheVariants as value
-use Rattle.av_written.specs.Spacing.{words_of}
-use Rattle.av_again.specs.Making.{class_of_word, FewSigns, nothing, by_sign, by_word, by_token}
+use Rattle.av_print_laws.specs.Spacing.{words_of}
+use Rattle.av_read_laws.specs.Making.{class_of_word, FewSigns, nothing, by_sign, by_word, by_token}
 use Rattle.av_round_trip.proofs.Following.{followed, row, respelled, revalued}
 use Rattle.av_round_trip.specs.Giving.{Gives}
 

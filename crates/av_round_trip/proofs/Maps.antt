@@ -25,7 +25,7 @@ use Rattle.av_values.specs.declared.value.Expression.{Expression}
 use Rattle.av_values.specs.declared.value.Value.{Value}
 use Rattle.av_values.specs.declared.value.Value.TheVariants as value
 use Rattle.av_parts.specs.rows.MapRows.{map_of, set_of}
-use Rattle.av_again.proofs.Nodes.{map-reverse}
+use Rattle.av_read_laws.proofs.Nodes.{map-reverse}
 use Rattle.av_round_trip.specs.Giving.{Gives}
 use Rattle.av_round_trip.specs.Expressions.{IsExpression, IsMap, IsRow, IsSet, MapsLaw, SetsLaw}
 use Rattle.av_round_trip.proofs.Giving.{none, join, given_row, given_sign, given_word, given_token, given_spaced, given_round, ListRows, Every, given_commas, given_all}

@@ -20,8 +20,8 @@ use Rattle.av_values.specs.declared.value.Operator.{Operator}
 use Rattle.av_values.specs.declared.value.Operator.TheVariants as operator
 use Rattle.av_values.specs.declared.value.Part.{Part}
 use Rattle.av_values.specs.Expressions.{calculation, with_part, joined_left}
-use Rattle.av_written.specs.Spacing.{words_of}
-use Rattle.av_again.specs.Making.{Word, class_of_word}
+use Rattle.av_print_laws.specs.Spacing.{words_of}
+use Rattle.av_read_laws.specs.Making.{Word, class_of_word}
 use Rattle.av_round_trip.specs.Expressions.{opens_round, brackets_in}
 use Rattle.av_round_trip.proofs.Giving.{words-append}
 

@@ -28,7 +28,7 @@ use Rattle.av_values.specs.Spellings.{unquoted}
 use Rattle.av_values.specs.Sorts.{on_top, replaced}
 use Rattle.av_values.specs.declared.value.GenericParts.{GenericParts}
 use Rattle.av_values.specs.declared.value.Value.TheVariants as value
-use Rattle.av_again.specs.Making.{class_of_word}
+use Rattle.av_read_laws.specs.Making.{class_of_word}
 use Rattle.av_round_trip.specs.Giving.{Gives}
 use Rattle.av_round_trip.specs.Types.{IsType, IsNameOfValue}
 use Rattle.av_round_trip.specs.Trees.{IsKnownType, known, IsWholeLine, PropertiesLaw, MarksLaw}

@@ -9,8 +9,8 @@ use Rattle.av_tree.specs.declared.class.Class.TheVariants as class
 use Rattle.av_tree.specs.declared.table.Test.TheVariants as test
 use Rattle.av_tree.specs.Classes.{fits_of}
 use Rattle.av_values.specs.Spellings.{unquoted}
-use Rattle.av_written.proofs.ExprParts.{either}
-use Rattle.av_again.specs.Making.{class_of_word}
+use Rattle.av_print_laws.proofs.ExprParts.{either}
+use Rattle.av_read_laws.specs.Making.{class_of_word}
 
 abbrev pub in_quotes : List ℕ → List ℕ
 in_quotes text = codes "\"" ++ text ++ codes "\""

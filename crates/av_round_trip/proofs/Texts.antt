@@ -6,12 +6,12 @@ use Rattle.av_reader.specs.Reading.{the_limits}
 use Rattle.av_printer.specs.declared.form.Form.TheVariants as forms
 use Rattle.av_printer.specs.Pieces.{Piece, spelt}
 use Rattle.av_printer.specs.Spelling.{pieces_of, spelling}
-use Rattle.av_written.specs.Spacing.{tokens_of, words_of}
-use Rattle.av_written.proofs.Lexing.{tokens-law, no-other-law}
-use Rattle.av_written.proofs.TextsOf.{spellings-law}
-use Rattle.av_written.proofs.NodeParts.{trees-law}
-use Rattle.av_again.specs.Laws.{IsMade, IsReadAs}
-use Rattle.av_again.proofs.Again.{reading-law}
+use Rattle.av_print_laws.specs.Spacing.{tokens_of, words_of}
+use Rattle.av_print_laws.proofs.Lexing.{tokens-law, no-other-law}
+use Rattle.av_print_laws.proofs.TextsOf.{spellings-law}
+use Rattle.av_print_laws.proofs.NodeParts.{trees-law}
+use Rattle.av_read_laws.specs.Laws.{IsMade, IsReadAs}
+use Rattle.av_read_laws.proofs.Again.{reading-law}
 use Rattle.av_round_trip.specs.Trees.{as_read}
 use Rattle.av_round_trip.specs.Laws.{GenericTextsLaw}
 use Rattle.av_round_trip.proofs.Trees.{generic_trees-law}

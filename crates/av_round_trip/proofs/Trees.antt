@@ -20,7 +20,7 @@ use Rattle.av_printer.specs.Spelling.{node_line, pieces_of}
 use Rattle.av_values.specs.Operations.{root_of, module_of}
 use Rattle.av_values.specs.Sorts.{on_top, replaced}
 use Rattle.av_values.specs.declared.value.Value.TheVariants as value
-use Rattle.av_again.specs.Making.{class_of_word}
+use Rattle.av_read_laws.specs.Making.{class_of_word}
 use Rattle.av_round_trip.specs.Giving.{Gives}
 use Rattle.av_round_trip.specs.Trees.{IsWholeLine, IsWhole, AreWholeBodies, AreWholeNodes, node, no_bodies, one_body_more, no_nodes, one_node_more, as_read, body_as_read, GenericTreesLaw}
 use Rattle.av_round_trip.proofs.Giving.{none, join, given_as, given_row, given_line, given_revalued}

@@ -32,10 +32,10 @@ use Rattle.av_printer.specs.Operations.{results_before}
 use Rattle.av_values.specs.Sorts.{on_top, replaced}
 use Rattle.av_values.specs.declared.value.Value.{Value}
 use Rattle.av_values.specs.declared.value.Value.TheVariants as value
-use Rattle.av_written.specs.ReadTypes.{IsShortSize, IsShortDim, IsShortLayout}
-use Rattle.av_written.proofs.TypeParts.{type-scalar, type-memref, type-vector}
-use Rattle.av_written.specs.Spacing.{words_of}
-use Rattle.av_again.specs.Making.{class_of_word, nothing, by_sign}
+use Rattle.av_print_laws.specs.ReadTypes.{IsShortSize, IsShortDim, IsShortLayout}
+use Rattle.av_print_laws.proofs.TypeParts.{type-scalar, type-memref, type-vector}
+use Rattle.av_print_laws.specs.Spacing.{words_of}
+use Rattle.av_read_laws.specs.Making.{class_of_word, nothing, by_sign}
 use Rattle.av_round_trip.specs.Giving.{Gives}
 use Rattle.av_round_trip.specs.Types.{IsResultNumber, IsNameOfValue, IsScalar, IsType, a_value, a_type, ValuesLaw, ManyValuesLaw, IntegersLaw, TypesLaw, ManyTypesLaw, ResultTypesLaw, scalar, mem_ref, vector}
 use Rattle.av_round_trip.specs.Trees.{IsResultCount, IsNameOfResults}

@@ -13,9 +13,9 @@ use Rattle.av_tree.specs.declared.class.Keyword.TheVariants as key
 use Rattle.av_tree.specs.declared.table.Test.TheVariants as test
 use Rattle.av_tree.specs.Classes.{fits_of, is_entry_name}
 use Rattle.av_derive.specs.ClassOf.{keywords, found_in, is_scalar, class_of_keyword, spells_word}
-use Rattle.av_written.proofs.ExprParts.{either}
-use Rattle.av_again.proofs.Signs.{both}
-use Rattle.av_again.specs.Making.{class_of_word}
+use Rattle.av_print_laws.proofs.ExprParts.{either}
+use Rattle.av_read_laws.proofs.Signs.{both}
+use Rattle.av_read_laws.specs.Making.{class_of_word}
 
 -- ---- any word but `function_type`
 abbrev function_type : List ℕ

@@ -17,8 +17,8 @@ use Rattle.av_tree.specs.declared.attribute.Named.{Named, out-Named}
 use Rattle.av_printer.specs.Attributes.{attribute}
 use Rattle.av_printer.specs.Dictionaries.{dictionary, in_order}
 use Rattle.av_values.specs.declared.value.Value.TheVariants as value
-use Rattle.av_written.specs.ReadExpressions.{IsShortInteger}
-use Rattle.av_again.specs.Making.{class_of_word}
+use Rattle.av_print_laws.specs.ReadExpressions.{IsShortInteger}
+use Rattle.av_read_laws.specs.Making.{class_of_word}
 use Rattle.av_round_trip.specs.Giving.{Gives}
 use Rattle.av_round_trip.specs.Types.{IsType}
 use Rattle.av_round_trip.specs.Expressions.{IsMap, IsSet}

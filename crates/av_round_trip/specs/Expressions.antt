@@ -19,9 +19,9 @@ use Rattle.av_printer.specs.Pieces.{Piece, plain}
 use Rattle.av_printer.specs.Expressions.{expression, map_pieces, set_pieces}
 use Rattle.av_values.specs.declared.value.Expression.{Expression}
 use Rattle.av_values.specs.declared.value.Value.TheVariants as value
-use Rattle.av_written.specs.Spacing.{words_of}
-use Rattle.av_written.specs.ReadExpressions.{IsShortInteger}
-use Rattle.av_again.specs.Making.{Word, class_of_word, is_calculation, Makes}
+use Rattle.av_print_laws.specs.Spacing.{words_of}
+use Rattle.av_print_laws.specs.ReadExpressions.{IsShortInteger}
+use Rattle.av_read_laws.specs.Making.{Word, class_of_word, is_calculation, Makes}
 use Rattle.av_round_trip.specs.Giving.{Gives}
 
 -- the names in an expression can be read, and its numbers have at most 38 digits

@@ -11,10 +11,10 @@ use Rattle.av_derive.specs.Derivation.{WithinBrackets}
 use Rattle.av_reader.specs.Reading.{the_limits}
 use Rattle.av_printer.specs.declared.form.Form.TheVariants as forms
 use Rattle.av_printer.specs.Spelling.{pieces_of, spelling}
-use Rattle.av_written.specs.Spacing.{words_of}
-use Rattle.av_written.specs.ReadNodes.{IsReadNode}
-use Rattle.av_again.specs.Making.{class_of_word}
-use Rattle.av_again.specs.Laws.{IsReadAs}
+use Rattle.av_print_laws.specs.Spacing.{words_of}
+use Rattle.av_print_laws.specs.ReadNodes.{IsReadNode}
+use Rattle.av_read_laws.specs.Making.{class_of_word}
+use Rattle.av_read_laws.specs.Laws.{IsReadAs}
 use Rattle.av_round_trip.specs.Trees.{IsWhole, as_read}
 
 -- A module that is spelled in words of their kinds, and is whole, where the limits of the format are kept.

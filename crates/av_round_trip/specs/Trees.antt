@@ -20,8 +20,8 @@ use Rattle.av_printer.specs.Operations.{properties_behind, marks_behind}
 use Rattle.av_printer.specs.Spelling.{pieces_of}
 use Rattle.av_values.specs.declared.value.Value.TheVariants as value
 use Rattle.av_values.specs.Forms.{completed}
-use Rattle.av_written.specs.Spacing.{words_of}
-use Rattle.av_again.specs.Making.{Makes, class_of_word}
+use Rattle.av_print_laws.specs.Spacing.{words_of}
+use Rattle.av_read_laws.specs.Making.{Makes, class_of_word}
 use Rattle.av_round_trip.specs.Giving.{Gives}
 use Rattle.av_round_trip.specs.Types.{IsType, IsNameOfValue}
 use Rattle.av_round_trip.specs.Attributes.{AreEntries}

@@ -16,9 +16,9 @@ use Rattle.av_printer.specs.Pieces.{commas}
 use Rattle.av_printer.specs.Expressions.{from, value as value_pieces, number}
 use Rattle.av_printer.specs.Types.{type_pieces, one_or_several}
 use Rattle.av_values.specs.declared.value.Value.TheVariants as value
-use Rattle.av_written.specs.ReadTypes.{IsShortSize, IsShortDim, IsShortLayout}
-use Rattle.av_written.specs.ReadExpressions.{IsShortInteger}
-use Rattle.av_again.specs.Making.{class_of_word}
+use Rattle.av_print_laws.specs.ReadTypes.{IsShortSize, IsShortDim, IsShortLayout}
+use Rattle.av_print_laws.specs.ReadExpressions.{IsShortInteger}
+use Rattle.av_read_laws.specs.Making.{class_of_word}
 use Rattle.av_round_trip.specs.Giving.{Gives}
 
 -- ---- values

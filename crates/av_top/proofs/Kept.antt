@@ -1,9 +1,9 @@
 -- What is written reads again as the marked module.
 use Rattle.std.proofs.Common.{◌≡◌, ◌≤◌, ◌*◌, ℕ, List, [], ◌∷◌, false, sym, subst, arith}
 use Rattle.std.specs.List.{All}
-use Rattle.av_return.proofs.Returned.{return_law}
-use Rattle.av_return.specs.Laws.{HasFewValues}
-use Rattle.av_return.specs.Returns.{ReadsAgain}
+use Rattle.av_output_laws.proofs.Returned.{return_law}
+use Rattle.av_output_laws.specs.ReturnLaws.{HasFewValues}
+use Rattle.av_output_laws.specs.Returns.{ReadsAgain}
 use Rattle.av_tree.specs.declared.node.Tree.{Tree}
 use Rattle.av_ir.specs.declared.module.Module.{Module}
 use Rattle.av_ir.specs.Marks.{marked_of}

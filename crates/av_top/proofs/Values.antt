@@ -3,7 +3,7 @@ use Rattle.std.proofs.Common.{ℕ, ◌<◌, ◌^◌, List, [], ◌∷◌, length
 use Rattle.std.proofs.lemmas.List.Elements.{All-nil, All-cons}
 use Rattle.std.specs.List.{All}
 use Rattle.av_ir.specs.declared.module.Func.{Func}
-use Rattle.av_return.specs.Laws.{HasFewValues}
+use Rattle.av_output_laws.specs.ReturnLaws.{HasFewValues}
 use Rattle.av_top.specs.Values.{greater, most_of}
 
 both_below : (m l n : ℕ) → (if nat_lt m l then l else m) < n → (m < n) × (l < n)

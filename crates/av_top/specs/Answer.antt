@@ -6,7 +6,7 @@ use Rattle.av_totree.specs.Trees.{tree_of}
 use Rattle.av_ir.specs.declared.module.Module.{Module}
 use Rattle.av_ir.specs.Marks.{marked_of}
 use Rattle.av_kept.specs.Headline.{EndsAlike}
-use Rattle.av_return.specs.Returns.{ReadsAgain}
+use Rattle.av_output_laws.specs.Returns.{ReadsAgain}
 use Rattle.av_top.specs.declared.request.Request.{Request}
 use Rattle.av_top.specs.FirstPathText.{IsFirstPathText}
 use Rattle.av_top.specs.Report.{reported}

@@ -8,7 +8,7 @@ ghost use Rattle.av_top.specs.FirstPathText.{IsModuleOf};
 ghost use Rattle.av_top.specs.Refusals.{Refuses, RefusesTree};
 ghost use Rattle.av_top.specs.Report.{reported};
 ghost use Rattle.av_top.specs.Values.{most_of};
-ghost use Rattle.av_return.specs.Laws.{HasFewValues};
+ghost use Rattle.av_output_laws.specs.ReturnLaws.{HasFewValues};
 
 use crate::report::report_of;
 use crate::request::Request;

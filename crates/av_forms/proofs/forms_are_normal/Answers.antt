@@ -1,5 +1,0 @@
-use Rattle.av_forms.proofs.Made.{normal-form-law}
-use Rattle.av_forms.proofs.forms_are_normal.Goals as goal
-
-pub returns : goal.returns
-returns c = normal-form-law

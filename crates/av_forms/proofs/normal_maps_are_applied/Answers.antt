@@ -1,5 +1,0 @@
-use Rattle.av_forms.proofs.Normalising.{normal-is-applied-law}
-use Rattle.av_forms.proofs.normal_maps_are_applied.Goals as goal
-
-pub returns : goal.returns
-returns c = normal-is-applied-law

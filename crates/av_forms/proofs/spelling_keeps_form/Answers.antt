@@ -1,5 +1,0 @@
-use Rattle.av_forms.proofs.Spelt.{spelling-form-law}
-use Rattle.av_forms.proofs.spelling_keeps_form.Goals as goal
-
-pub returns : goal.returns
-returns c = spelling-form-law

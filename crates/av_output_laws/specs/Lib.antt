@@ -1,0 +1,4 @@
+pub mod RereadLaws
+pub mod Returns
+pub mod ReturnLaws
+pub mod PlacesLaws

@@ -1,2 +1,0 @@
-pub mod Returns
-pub mod Laws

@@ -1,5 +1,0 @@
-use Rattle.av_written.proofs.InOrder.{ordered-entries-law}
-use Rattle.av_written.proofs.entries_are_ordered.Goals as goal
-
-pub returns : goal.returns
-returns c = ordered-entries-law
