@@ -1,0 +1,4 @@
+pub mod Texts
+pub mod Types
+pub mod Relations
+pub mod Examples
