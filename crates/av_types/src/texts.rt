@@ -147,12 +147,8 @@ pub fn is_trailing(ty: &TypeText) -> bool
 fn scales_last(dims: &[DimText]) -> bool
     ensures { result ≡ scales_last dims.now }
 {
-    for at in 1..dims.len() {
-        if is_scalable(dims[at - 1]) {
-            return false;
-        }
-    }
-    true
+    let before_last = &dims[..dims.len().saturating_sub(1)];
+    !before_last.iter().any(|dim| is_scalable(*dim))
 }
 
 /// Whether a written type is that of vectors.
