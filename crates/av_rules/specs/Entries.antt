@@ -15,9 +15,9 @@ use Rattle.av_tree.specs.declared.attribute.Attr.{Attr}
 use Rattle.av_tree.specs.declared.attribute.Attr.TheVariants as attr
 use Rattle.av_tree.specs.declared.attribute.Named.{Named, out-Named}
 use Rattle.av_tree.specs.declared.node.Node.{Node, out-Node}
-use Rattle.av_tree.specs.declared.written.MapText.{MapText}
-use Rattle.av_tree.specs.declared.written.SetText.{SetText}
-use Rattle.av_tree.specs.declared.written.TypeText.{TypeText, Scalar, Func}
+use Rattle.av_tree.specs.declared.written.TypeText.{TypeText, TypeText-F, Scalar, out-TypeText}
+use Rattle.av_tree.specs.declared.written.TypeText.TheOpen as type
+use Rattle.av_maps.specs.Names.{map_in, set_in}
 use Rattle.av_rules.specs.Names.{is_among}
 use Rattle.av_rules.specs.Rows.{Row, is_function, is_module}
 
@@ -51,29 +51,6 @@ abbrev pub kept : Row → Node → List Named
 kept row node = filter (λ e. not (is_dropped row (out-Named e).name)) (entries node)
 
 -- ---- values
--- the one map or set of an alias that is defined once
-abbrev pub only_value : List Alias → Option Attr
-only_value (a ∷ []) = Some a.value
-only_value _ = None
-
-abbrev pub resolved : List Alias → Attr → Option Attr
-resolved aliases (attr.AliasUse name) = only_value (filter (λ a. bytes_eq a.name name) aliases)
-resolved aliases value = Some value
-
-abbrev pub map_in : Attr → Option MapText
-map_in (attr.Map m) = Some m
-map_in _ = None
-
-abbrev pub set_in : Attr → Option SetText
-set_in (attr.Set s) = Some s
-set_in _ = None
-
-abbrev pub map_of : List Alias → Attr → Option MapText
-map_of aliases value = option_and_then map_in (resolved aliases value)
-
-abbrev pub set_of : List Alias → Attr → Option SetText
-set_of aliases value = option_and_then set_in (resolved aliases value)
-
 -- the type is a scalar of this name
 abbrev pub is_named : List ℕ → TypeText → Bool
 is_named name (Scalar other) = bytes_eq name other
@@ -103,12 +80,12 @@ pub record Function : Type 0 where
   pub inputs : List TypeText
   pub results : List TypeText
 
-abbrev pub function_in : TypeText → Option Function
-function_in (Func inputs results) = Some (record { inputs = inputs; results = results })
+abbrev pub function_in : TypeText-F TypeText → Option Function
+function_in (type.Func inputs results) = Some (record { inputs = inputs; results = results })
 function_in _ = None
 
 abbrev pub function_of : Attr → Option Function
-function_of (attr.«Type» ty) = function_in ty
+function_of (attr.«Type» ty) = function_in (out-TypeText ty)
 function_of _ = None
 
 -- ---- what a value has to be
@@ -146,8 +123,8 @@ has_form aliases form.Kind value = is_kind value
 has_form aliases form.Step value = is_some (number_of (codes "index") value)
 has_form aliases form.Numbers value = is_some (array_of (codes "i64") value)
 has_form aliases form.Segments value = is_some (array_of (codes "i32") value)
-has_form aliases (form.Map uses amount) value = is_some (map_of aliases value)
-has_form aliases (form.Set uses) value = is_some (set_of aliases value)
+has_form aliases (form.Map uses amount) value = is_some (map_in aliases value)
+has_form aliases (form.Set uses) value = is_some (set_in aliases value)
 
 -- a unit, or a number of type i64 from 0 to 2 ^ 64 - 1
 abbrev pub is_unit : Attr → Bool

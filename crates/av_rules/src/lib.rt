@@ -7,5 +7,5 @@
 mod laws;
 mod mode;
 
-pub use laws::{least_pairs, some_trees};
+pub use laws::{least_pairs};
 pub use mode::Mode;

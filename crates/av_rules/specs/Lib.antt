@@ -1,0 +1,15 @@
+pub mod Rows
+pub mod Names
+pub mod Scopes
+pub mod Entries
+pub mod Places
+pub mod Typing
+pub mod Sites
+pub mod Counts
+pub mod Agreement
+pub mod Properties
+pub mod Regions
+pub mod Constants
+pub mod Limits
+pub mod Least
+pub mod Fails
