@@ -1,5 +1,5 @@
 -- Classes of types, and how the types of an operation's values are related.
-use Rattle.std.specs.Prelude.{ℕ, ◌+◌, ◌-◌, ◌==◌, nat_le, Bool, true, false, not, ◌&&◌, ◌||◌, if◌then◌else◌, List, [], ◌∷◌, length, drop}
+use Rattle.std.specs.Prelude.{ℕ, ◌-◌, ◌==◌, nat_le, Bool, true, false, not, ◌&&◌, ◌||◌, List, [], ◌∷◌, length, drop}
 use Rattle.std.specs.Bool.{beq}
 use Rattle.std.specs.Cmp.Lexicographic.{pointwise}
 use Rattle.av_bits.specs.declared.types.Width.TheVariants.{W1}
@@ -10,7 +10,7 @@ use Rattle.av_ir.specs.declared.ty.Extent.{Extent}
 use Rattle.av_ir.specs.declared.ty.Extent.TheVariants.{Fixed, Dyn}
 use Rattle.av_ir.specs.declared.ty.Ty.{Ty}
 use Rattle.av_ir.specs.declared.ty.Ty.TheVariants.{Scalar, MemRef, Vector}
-use Rattle.av_shapes.specs.Shape.{ShapeView, shape_eq}
+use Rattle.av_shapes.specs.Shape.{shape_eq}
 
 -- ---- classes
 abbrev pub is_scalar : Ty → Bool
