@@ -15,9 +15,9 @@ use Rattle.av_printer.specs.declared.named.NamedForm.TheVariants as own
 use Rattle.av_printer.specs.Pieces.{Piece, new_line, joined}
 use Rattle.av_printer.specs.Expressions.{first_value, value, subscripts}
 use Rattle.av_dialects.specs.declared.item.Lead.TheVariants as lead
-use Rattle.av_dialects.specs.Rows.{names, forms as table, place_among, number_of, form_at}
+use Rattle.av_dialects.specs.Rows.{names, forms as table}
 use Rattle.av_printer.specs.OwnForms.{own_form, own_line, own_end}
-use Rattle.av_printer.specs.Parts.{before_regions, behind_regions, past_regions, form_line, form_end, first_word, parts_pieces, part_pieces, flags_of}
+use Rattle.av_printer.specs.Parts.{before_regions, behind_regions, behind_seen, form_line, form_end, first_word, parts_pieces, part_pieces, flags_of}
 use Rattle.av_printer.specs.Operations.{Head, first_of, results_before, property, map_of, subscripts_if_any, buffer}
 use Rattle.av_printer.specs.Spelling.{on_line, is_silent, is_yield, operation_of, node_line, own_bodies}
 use Rattle.av_printer.proofs.NodeSteps.{silent-of, whole-own}
@@ -97,7 +97,7 @@ pub constant_said : (pattern : ℕ) (place : Place) (depth : ℕ)
     → Says (node_line forms.Named depth (constant_node pattern place))
     (λ ws. value_word (operation_name place.operations) ∷ sign_word signs.Equal ∷ plain_word (codes "arith.constant")
     ∷ (number_words (signed_low W32 pattern) ++ (sign_word signs.Colon ∷ plain_word (codes "i32") ∷ ws)))
-unfolding constant_node node own_form is_silent is_yield joined number_of place_among names form_at table before_regions behind_regions past_regions form_line form_end first_word parts_pieces part_pieces
+unfolding constant_node node own_form is_silent is_yield joined names table before_regions behind_seen form_line form_end first_word parts_pieces part_pieces
 constant_said pattern place depth =
     operation_said (written_layer (codes "arith.constant") place [] (next_name place) (element ∷ []) (entry (codes "value") (constant_attr pattern) ∷ []) [] [])
     (own.Row _) depth refl refl
@@ -110,7 +110,7 @@ sum_said : (left right : ℕ) (place : Place) (depth : ℕ) → HasPlain place
     → Says (node_line forms.Named depth (roll-Node (written_layer (codes "arith.addi") place (left ∷ right ∷ []) (next_name place) (type_at place left ∷ []) [] [] [])))
     (λ ws. value_word (operation_name place.operations) ∷ sign_word signs.Equal ∷ plain_word (codes "arith.addi") ∷ value_word (name_at place left)
     ∷ sign_word signs.Comma ∷ value_word (name_at place right) ∷ sign_word signs.Colon ∷ (type_words (type_at place left) ++ ws))
-unfolding own_form is_silent is_yield joined first_value flags_of property number_of place_among names form_at table before_regions behind_regions past_regions form_line form_end first_word parts_pieces part_pieces
+unfolding own_form is_silent is_yield joined first_value flags_of property names table before_regions behind_seen form_line form_end first_word parts_pieces part_pieces
 sum_said left right place depth all =
     operation_said (written_layer (codes "arith.addi") place (left ∷ right ∷ []) (next_name place) (type_at place left ∷ []) [] [] []) (own.Row _) depth refl refl
     (also (results_said (operation_name place.operations) (plain_operation place.operations))
@@ -149,7 +149,7 @@ load_said : (from counter : ℕ) (at : Subscript) (place : Place) (depth : ℕ) 
     (λ ws. value_word (operation_name place.operations) ∷ sign_word signs.Equal ∷ plain_word (codes "affine.load") ∷ value_word (name_at place from)
     ∷ sign_word signs.OpenSquare ∷ (subscript_words (name_at place counter) at ++ (sign_word signs.CloseSquare
     ∷ (mark_words (codes "affvec.of") place.number ++ (sign_word signs.Colon ∷ (type_words (type_at place from) ++ ws))))))
-unfolding own_form is_silent joined number_of place_among names form_at table before_regions behind_regions past_regions form_line form_end first_word parts_pieces part_pieces
+unfolding own_form is_silent joined names table before_regions behind_seen form_line form_end first_word parts_pieces part_pieces
 load_said from counter at place depth all =
     operation_said (written_layer (codes "affine.load") place (from ∷ subscript_values counter at) (next_name place) (element ∷ [])
     (map_entry (codes "map") (subscript_map at) ∷ []) (mark (codes "affvec.of") place.number) []) (own.Row _) depth refl refl
@@ -165,7 +165,7 @@ store_said : (stored into counter : ℕ) (at : Subscript) (place : Place) (depth
     (λ ws. plain_word (codes "affine.store") ∷ value_word (name_at place stored) ∷ sign_word signs.Comma ∷ value_word (name_at place into)
     ∷ sign_word signs.OpenSquare ∷ (subscript_words (name_at place counter) at ++ (sign_word signs.CloseSquare
     ∷ (mark_words (codes "affvec.of") place.number ++ (sign_word signs.Colon ∷ (type_words (type_at place into) ++ ws))))))
-unfolding own_form is_silent results_before joined first_value number_of place_among names form_at table before_regions behind_regions past_regions form_line form_end first_word parts_pieces part_pieces
+unfolding own_form is_silent results_before joined first_value names table before_regions behind_seen form_line form_end first_word parts_pieces part_pieces
 store_said stored into counter at place depth all =
     operation_said (written_layer (codes "affine.store") place (stored ∷ into ∷ subscript_values counter at) [] []
     (map_entry (codes "map") (subscript_map at) ∷ []) (mark (codes "affvec.of") place.number) []) (own.Row _) depth refl refl

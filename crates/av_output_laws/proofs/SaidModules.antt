@@ -24,10 +24,10 @@ use Rattle.av_printer.specs.Pieces.{Piece, space, sign, plain, new_line, commas,
 use Rattle.av_printer.specs.Expressions.{number, single_bound, single_bound_of, constant_bound, bound_by}
 use Rattle.av_printer.specs.Types.{type_pieces}
 use Rattle.av_printer.specs.OwnForms.{own_form, own_line}
-use Rattle.av_printer.specs.Parts.{before_regions, behind_regions, past_regions, form_line, form_end, first_word, parts_pieces, part_pieces, bound_in, bound_of}
+use Rattle.av_printer.specs.Parts.{before_regions, behind_regions, behind_seen, form_line, form_end, first_word, parts_pieces, part_pieces, bound_in, bound_of}
 use Rattle.av_dialects.specs.declared.item.Item.TheVariants as item
 use Rattle.av_dialects.specs.declared.item.Lead.TheVariants as lead
-use Rattle.av_dialects.specs.Rows.{Part, names, forms as table, place_among, number_of as row_of, form_at}
+use Rattle.av_dialects.specs.Rows.{Part, names, forms as table}
 use Rattle.av_printer.specs.Operations.{Head, results_before, property, step_of, text_of, results_of, results_behind, function_name, attributes_word, marks_behind, function_line, argument, arguments_pieces, values_behind, variable, step_behind, carried_behind}
 use Rattle.av_printer.specs.Spelling.{is_silent, is_yield, node_line, own_body, pieces_of}
 use Rattle.av_printer.proofs.NodeSteps.{own-of}
@@ -129,7 +129,7 @@ module _ (lower upper : ℤ) where
       (λ ws. plain_word (codes "affine.for") ∷ value_word (argument_name place.arguments) ∷ sign_word signs.Equal
       ∷ (number_words lower ++ (plain_word (codes "to") ∷ (number_words upper
       ++ (sign_word signs.OpenCurly ∷ f (sign_word signs.CloseCurly ∷ (mark_words (codes "affvec.loop") place.loops ++ ws)))))))
-  unfolding own_form is_silent is_yield results_before joined loop_body row_of place_among names form_at table before_regions behind_regions past_regions form_line form_end first_word parts_pieces part_pieces
+  unfolding own_form is_silent is_yield results_before joined loop_body names table before_regions behind_seen form_line form_end first_word parts_pieces part_pieces
   loop_said nodes place depth said =
       let arg : BodyArg = written.argument (argument_name place.arguments) (Scalar Index) in
       operation_said (written_layer (codes "affine.for") place [] [] [] props (mark (codes "affvec.loop") place.loops) (loop_body nodes place ∷ [])) (own.Row _) depth refl refl
@@ -157,7 +157,7 @@ step_said (counted lower upper lines) place depth all =
     (loop_said lower upper (line_nodes (next place) lines (inside place)) place depth (lines_said (next place) lines (inside place) (depth + 1) (plain-inside place all)))
 
 return_said : (place : Place) (depth : ℕ) → Says (node_line forms.Named depth (end_node (codes "func.return") place)) (λ ws. plain_word (codes "return") ∷ ws)
-unfolding end_node node own_form is_silent is_yield results_before values_behind joined row_of place_among names form_at table before_regions behind_regions past_regions form_line form_end first_word parts_pieces part_pieces
+unfolding end_node node own_form is_silent is_yield results_before values_behind joined names table before_regions behind_seen form_line form_end first_word parts_pieces part_pieces
 return_said place depth =
     operation_said (written_layer (codes "func.return") place [] [] [] [] [] []) (own.Row _) depth refl refl
     (also none (also (also (also (token_said kinds.Word (codes "return")) (also (led lead.Nothing none) none)) none) none))

@@ -1,6 +1,6 @@
 -- The parts of forms of operations that were read are spaced, each behind what stands before it.
 use Rattle.std.proofs.Common.{◌≡◌, ℕ, zero, suc, ◌-◌, ◌&&◌, ℤ, pos, negsuc, Bool, true, false, List, [], ◌∷◌, ◌++◌, if◌then◌else◌, length, take, drop, map, Option, Some, None, refl, codes}
-use Rattle.std.specs.Prelude.{slice_get}
+use Rattle.std.specs.Prelude.{slice_get, get_or}
 use Rattle.std.specs.List.{All, list_all}
 use Rattle.std.proofs.lemmas.Bool.{false≢true}
 use Rattle.std.proofs.lemmas.List.Elements.{All-head, All-tail, All-take, All-drop}
@@ -19,7 +19,7 @@ use Rattle.av_dialects.specs.declared.item.Lead.TheVariants as lead
 use Rattle.av_dialects.specs.declared.item.Slot.{Slot}
 use Rattle.av_dialects.specs.declared.item.Slot.TheVariants as slot
 use Rattle.av_dialects.specs.Ends.{is_optional}
-use Rattle.av_dialects.specs.Rows.{Part, forms, predicates, property_of, parts_or_none, form_at}
+use Rattle.av_dialects.specs.Rows.{Part, forms, predicates, property_of, form_of}
 use Rattle.av_dialects.specs.Types.{needs}
 use Rattle.av_printer.specs.Pieces.{Piece, space, token, sign, plain, comma, spaced, commas, in_square}
 use Rattle.av_printer.specs.Types.{type_pieces}
@@ -267,23 +267,23 @@ all_fit (part ∷ parts) = fits part.0 part.1 && all_fit parts
 both_fit : List Part → Bool
 both_fit parts = all_fit (p.before_regions parts) && all_fit (p.behind_regions parts)
 
-fit-among : (several : List (List Part)) → list_all both_fit several ≡ true → (number : ℕ) → both_fit (parts_or_none (slice_get several number)) ≡ true
-unfolding both_fit all_fit p.before_regions p.behind_regions
+fit-among : (several : List (List Part)) → list_all both_fit several ≡ true → (number : ℕ) → both_fit (get_or several number []) ≡ true
+unfolding both_fit all_fit p.before_regions p.behind_seen
 fit-among [] h number = refl
 fit-among (parts ∷ several) h zero = (both_true (both_fit parts) (list_all both_fit several) h).0
 fit-among (parts ∷ several) h (suc number) = fit-among several (both_true (both_fit parts) (list_all both_fit several) h).1 number
 
-forms-fit : (number : ℕ) → both_fit (form_at number) ≡ true
-unfolding form_at forms both_fit all_fit fits stands_alone p.before_regions p.behind_regions p.past_regions
+forms-fit : (number : ℕ) → both_fit (form_of number) ≡ true
+unfolding forms both_fit all_fit fits stands_alone p.before_regions p.behind_seen
 forms-fit at = fit-among forms refl at
 
-pub before-fit : (number : ℕ) → all_fit (p.before_regions (form_at number)) ≡ true
+pub before-fit : (number : ℕ) → all_fit (p.before_regions (form_of number)) ≡ true
 unfolding both_fit
-before-fit number = (both_true (all_fit (p.before_regions (form_at number))) (all_fit (p.behind_regions (form_at number))) (forms-fit number)).0
+before-fit number = (both_true (all_fit (p.before_regions (form_of number))) (all_fit (p.behind_regions (form_of number))) (forms-fit number)).0
 
-pub behind-fit : (number : ℕ) → all_fit (p.behind_regions (form_at number)) ≡ true
+pub behind-fit : (number : ℕ) → all_fit (p.behind_regions (form_of number)) ≡ true
 unfolding both_fit
-behind-fit number = (both_true (all_fit (p.before_regions (form_at number))) (all_fit (p.behind_regions (form_at number))) (forms-fit number)).1
+behind-fit number = (both_true (all_fit (p.before_regions (form_of number))) (all_fit (p.behind_regions (form_of number))) (forms-fit number)).1
 
 -- ---- parts of an operation that was read
 module _ (h : Head) (r : ReadHead h) where

@@ -10,8 +10,8 @@ use Rattle.av_printer.specs.declared.named.NamedForm.TheVariants as own
 use Rattle.av_printer.specs.Pieces.{Piece, sign, plain, spaced}
 use Rattle.av_printer.specs.Operations as o
 use Rattle.av_printer.specs.OwnForms as f
-use Rattle.av_dialects.specs.Rows.{form_at}
-use Rattle.av_printer.specs.Parts.{parts_pieces, before_regions, behind_regions, first_word, form_line, form_end}
+use Rattle.av_dialects.specs.Rows.{form_of}
+use Rattle.av_printer.specs.Parts.{parts_pieces, before_regions, behind_regions, behind_seen, first_word, form_line, form_end}
 use Rattle.av_print_laws.specs.Spacing.{lengthens, IsWord}
 use Rattle.av_print_laws.specs.ReadExpressions.{IsValue}
 use Rattle.av_print_laws.specs.ReadNodes.{IsReadTypeIf, HasSymbol}
@@ -68,14 +68,14 @@ module _ (h : o.Head) (r : ReadHead h) where
   sound-own_line own.Module s = sound-word (codes "module") module_word
   sound-own_line own.Function s = sound-function_line s
   sound-own_line (own.Row number) s =
-      sound-tail (plain (first_word h.name)) (parts_pieces h (before_regions (form_at number)) h.operands) (sound-word (first_word h.name) s)
-      (tail-parts h r (before_regions (form_at number)) (before-fit number) h.operands r.uses)
+      sound-tail (plain (first_word h.name)) (parts_pieces h (before_regions (form_of number)) h.operands) (sound-word (first_word h.name) s)
+      (tail-parts h r (before_regions (form_of number)) (before-fit number) h.operands r.uses)
 
   pub tail-own_end : (form : NamedForm) → Tail (f.own_end form h)
   unfolding form_end
   tail-own_end own.Module = tail-none
   tail-own_end own.Function = tail-none
-  tail-own_end (own.Row number) = tail-parts h r (behind_regions (form_at number)) (behind-fit number) [] (All-nil IsValue)
+  tail-own_end (own.Row number) = tail-parts h r (behind_regions (form_of number)) (behind-fit number) [] (All-nil IsValue)
 
   -- ---- the form that all have in common
   free-quoted_name : Free (o.quoted_name h.name)

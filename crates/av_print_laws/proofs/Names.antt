@@ -1,6 +1,6 @@
 -- Which names have which form of their own, and that the names in the table of operations are words.
-use Rattle.std.proofs.Common.{◌≡◌, ℕ, ◌&&◌, Bool, true, false, cond, List, [], ◌∷◌, Option, Some, None, refl, sym, ap, subst, codes}
-use Rattle.std.specs.Prelude.{nat_eq}
+use Rattle.std.proofs.Common.{◌≡◌, ℕ, suc, ◌&&◌, Bool, true, false, cond, List, [], ◌∷◌, Option, Some, None, refl, sym, ap, subst, codes}
+use Rattle.std.specs.Prelude.{nat_eq, option_map}
 use Rattle.std.specs.List.{list_all}
 use Rattle.std.specs.Str.{bytes_eq}
 use Rattle.std.proofs.lemmas.Bool.{false≢true, eqb-true}
@@ -8,7 +8,7 @@ use Rattle.std.proofs.lemmas.Slice.Eq.{bytes_eq-Decides}
 use Rattle.av_lex.specs.declared.token.Kind.TheVariants as kinds
 use Rattle.av_lex.specs.Bytes.{in_class}
 use Rattle.av_derive.specs.ClassOf.{spells_word}
-use Rattle.av_dialects.specs.Rows.{names, behind_one, place_among, number_of}
+use Rattle.av_dialects.specs.Rows.{names, place_in, number_of}
 use Rattle.av_printer.specs.declared.named.NamedForm.{NamedForm}
 use Rattle.av_printer.specs.declared.named.NamedForm.TheVariants as own
 use Rattle.av_printer.specs.Expressions.{same}
@@ -71,26 +71,25 @@ row-number name number e =
     row-chosen (same name (codes "builtin.module")) (same name (codes "func.func")) (number_of name) number (ap row_in e)
 
 -- ---- names of rows are words
-place-behind : (found : Option ℕ) (number : ℕ) → behind_one found ≡ Some number → (k : ℕ) × (found ≡ Some k)
+place-behind : (found : Option ℕ) (number : ℕ) → option_map suc found ≡ Some number → (k : ℕ) × (found ≡ Some k)
 place-behind None number h = cc
 place-behind (Some k) number h = (k, refl)
 
 word-among : (several : List (List ℕ)) → list_all spells_word several ≡ true → (name : List ℕ) (number : ℕ)
-    → place_among several name ≡ Some number → IsWord kinds.Word name
-unfolding place_among
+    → place_in several name ≡ Some number → IsWord kinds.Word name
 word-among [] h name number e = cc
 word-among (n ∷ several) h name number e =
     let both = both_true (spells_word n) (list_all spells_word several) h in
-    either (λ found. found ≡ Some number → IsWord kinds.Word name) (bytes_eq name n) (Some 0) (behind_one (place_among several name))
-    (λ b e. subst (IsWord kinds.Word) (sym ((bytes_eq-Decides name n).0 b)) (is_word n both.0))
-    (λ b e. let found = place-behind (place_among several name) number e in word-among several both.1 name found.0 found.1) e
+    either (λ found. found ≡ Some number → IsWord kinds.Word name) (bytes_eq n name) (Some 0) (option_map suc (place_in several name))
+    (λ b e. subst (IsWord kinds.Word) ((bytes_eq-Decides n name).0 b) (is_word n both.0))
+    (λ b e. let found = place-behind (place_in several name) number e in word-among several both.1 name found.0 found.1) e
 
 return_word : IsWord kinds.Word (codes "return")
 unfolding in_class
 return_word = is_word (codes "return") refl
 
 pub row-word : (name : List ℕ) (number : ℕ) → own_form name ≡ Some (own.Row number) → IsWord kinds.Word (first_word name)
-unfolding first_word number_of names in_class
+unfolding first_word names in_class
 row-word name number e =
     either (IsWord kinds.Word) (same name (codes "func.return")) (codes "return") name (λ b. return_word)
     (λ b. word-among names refl name number (row-number name number e))

@@ -26,9 +26,9 @@ use Rattle.av_printer.specs.Pieces.{Piece, space, new_line, sign, plain, joined}
 use Rattle.av_printer.specs.Expressions.{first_value, value, number}
 use Rattle.av_printer.specs.Operations as lines
 use Rattle.av_printer.specs.Operations.{Head, first_of, property}
-use Rattle.av_dialects.specs.Rows.{names, forms, place_among, number_of, form_at}
+use Rattle.av_dialects.specs.Rows.{names, forms}
 use Rattle.av_printer.specs.OwnForms.{own_form, own_line, own_end}
-use Rattle.av_printer.specs.Parts.{before_regions, behind_regions, past_regions, flags_of, bound_of}
+use Rattle.av_printer.specs.Parts.{before_regions, behind_regions, behind_seen, flags_of, bound_of}
 use Rattle.av_printer.specs.Spelling.{Operation, on_line, left_out, operation_of, node_line, own_body, own_bodies, pieces_of}
 use Rattle.av_printer.proofs.NodeSteps.{whole-own, own-of}
 use Rattle.av_totree.specs.Types.{type_of}
@@ -115,13 +115,13 @@ module _ (k : ℕ) (args : List BodyArg) (nodes : List Node) where
 -- ---- lines in a loop
 -- an operation by the row of its name: what its items move before the regions and behind them
 row_moves : (k : ℕ) (x : Node-F Body Node) (row : ℕ) → own_form x.name ≡ Some (own.Row row)
-    → ItemsMove k (head_in x) x.operands (before_regions (form_at row)) → ((depth : ℕ) → Each k (own_bodies depth x.regions))
-    → ItemsMove k (head_in x) [] (behind_regions (form_at row)) → NodeMoves k (roll-Node x)
+    → ItemsMove k (head_in x) x.operands (before_regions (form_of row)) → ((depth : ℕ) → Each k (own_bodies depth x.regions))
+    → ItemsMove k (head_in x) [] (behind_regions (form_of row)) → NodeMoves k (roll-Node x)
 row_moves k x row e begins bodies ends =
-    node_moves k x (own.Row row) e (line_moves k (head_in x) (form_at row) begins) bodies (end_moves k (head_in x) (form_at row) ends)
+    node_moves k x (own.Row row) e (line_moves k (head_in x) (form_of row) begins) bodies (end_moves k (head_in x) (form_of row) ends)
 
 constant_moves : (pattern : ℕ) (place : Place) → NodeMoves 2 (constant_node pattern place)
-unfolding constant_node node own_form number_of place_among names form_at forms before_regions behind_regions
+unfolding constant_node node own_form names forms before_regions behind_seen
 constant_moves pattern place = row_moves 2 _ _ refl ((λ n m. widen 2 (constant_value_moves pattern) (omega arith)), tt) (λ depth. tt) tt
 
 first_moves : (values : List (List ℕ)) → Moves 2 0 (first_value values)
@@ -135,7 +135,7 @@ no_flags = nothing 2
 
 sum_moves : (left right : ℕ) (place : Place)
     → NodeMoves 2 (node (codes "arith.addi") place (left ∷ right ∷ []) (next_name place) (type_at place left ∷ []) [] [] [])
-unfolding node own_form number_of place_among names form_at forms before_regions behind_regions
+unfolding node own_form names forms before_regions behind_seen
 sum_moves left right place =
     let operand = λ (n m : ℕ). first_moves (take n (drop m (map (name_at place) (left ∷ right ∷ [])))) in
     row_moves 2 _ _ refl
@@ -160,7 +160,7 @@ marked number = widen 2 (mark_moves (codes "affvec.of") number) (omega arith)
 load_moves : (from counter : ℕ) (at : Subscript) (place : Place)
     → NodeMoves 2 (node (codes "affine.load") place (from ∷ subscript_values counter at) (next_name place) (element ∷ [])
     (map_entry (codes "map") (subscript_map at) ∷ []) (mark (codes "affvec.of") place.number) [])
-unfolding node own_form number_of place_among names form_at forms before_regions behind_regions
+unfolding node own_form names forms before_regions behind_seen
 load_moves from counter at place =
     row_moves 2 _ _ refl
     ((λ n m. buffer_moves at _), ((λ n m. marked place.number), ((λ n m. widen 2 (first_type_moves (type_at place from) _) (omega arith)), tt)))
@@ -169,7 +169,7 @@ load_moves from counter at place =
 store_moves : (stored into counter : ℕ) (at : Subscript) (place : Place)
     → NodeMoves 2 (node (codes "affine.store") place (stored ∷ into ∷ subscript_values counter at) [] []
     (map_entry (codes "map") (subscript_map at) ∷ []) (mark (codes "affvec.of") place.number) [])
-unfolding node own_form number_of place_among names form_at forms before_regions behind_regions
+unfolding node own_form names forms before_regions behind_seen
 store_moves stored into counter at place =
     row_moves 2 _ _ refl (
       (λ n m. first_moves _),
@@ -193,7 +193,7 @@ unfolding lines.values_behind
 no_values_moves k = nothing k
 
 yield_moves : (place : Place) → NodeMoves 2 (end_node (codes "affine.yield") place)
-unfolding end_node node own_form number_of place_among names form_at forms before_regions behind_regions
+unfolding end_node node own_form names forms before_regions behind_seen
 yield_moves place = row_moves 2 _ _ refl (without_operands (λ vs. lines.values_behind vs []) (no_values_moves 2), tt) (λ depth. tt) tt
 
 lines_move : (counter : ℕ) (several : List Line) (place : Place) → NodesMove 2 (line_nodes counter several place)
@@ -246,7 +246,7 @@ bound_there lower z o is = moves_as (bound_of lower o []) (ap (λ (o : Option At
 loop_moves : (lower upper : ℤ) (args : List BodyArg) (nodes : List Node) (place : Place) → NodesMove 2 nodes
     → NodeMoves 3 (node (codes "affine.for") place [] [] [] (loop_properties lower upper) (mark (codes "affvec.loop") place.loops)
     (roll-Body (record { args = args; nodes = nodes }) ∷ []))
-unfolding node own_form number_of place_among names form_at forms before_regions behind_regions past_regions
+unfolding node own_form names forms before_regions behind_seen
 loop_moves lower upper args nodes place h =
     row_moves 3 _ _ refl (
       (λ n m. variable_moves _),
@@ -273,7 +273,7 @@ step_node_moves (counted lower upper several) place =
     (lines_move (length place.types) several (inside place))
 
 return_moves : (place : Place) → NodeMoves 3 (end_node (codes "func.return") place)
-unfolding end_node node own_form number_of place_among names form_at forms before_regions behind_regions
+unfolding end_node node own_form names forms before_regions behind_seen
 return_moves place = row_moves 3 _ _ refl (without_operands (λ vs. lines.values_behind vs []) (no_values_moves 3), tt) (λ depth. tt) tt
 
 steps_move : (steps : List Step) (place : Place) → NodesMove 3 (step_nodes steps place)
