@@ -18,13 +18,11 @@ use Rattle.av_signatures.specs.declared.signature.Pair.TheVariants as pair
 use Rattle.av_signatures.specs.declared.signature.Place.TheVariants as place
 use Rattle.av_signatures.specs.declared.signature.Role.{Role}
 use Rattle.av_signatures.specs.declared.signature.Role.TheVariants as role
-use Rattle.av_tree.specs.declared.attribute.Attr.{Attr, Attr-F, fold-Attr}
-use Rattle.av_tree.specs.declared.attribute.Attr.TheOpen as attr
+use Rattle.av_tree.specs.declared.attribute.Attr.{Attr, List', Dictionary', Row_of-Attr, end_of-Attr, more_of-Attr, Row_of-Named, end_of-Named, more_of-Named}
 use Rattle.av_tree.specs.declared.attribute.Attr.TheVariants as value
-use Rattle.av_tree.specs.declared.attribute.Named.{Named, Named-F, out-Named}
-use Rattle.av_tree.specs.declared.node.Body.{Body, out-Body}
+use Rattle.av_tree.specs.declared.attribute.Named.{Named}
+use Rattle.av_tree.specs.declared.node.Body.{Body}
 use Rattle.av_tree.specs.declared.node.BodyArg.{BodyArg}
-use Rattle.av_tree.specs.declared.node.Node.{out-Node}
 use Rattle.av_tree.specs.declared.written.TypeText.{TypeText, TypeText-F, out-TypeText}
 use Rattle.av_tree.specs.declared.written.TypeText.TheOpen as type
 use Rattle.av_types.specs.Texts.{is_type}
@@ -34,6 +32,7 @@ use Rattle.av_rules.specs.Entries.{Function, entry_of, function_of, kept, number
 use Rattle.av_rules.specs.Places.{Holder, Site, operand_types}
 use Rattle.av_rules.specs.Rows.{Row, is_function}
 use Rattle.av_rules.specs.Typing.{carried_types, index_type, part_at, result_types, spelled, type_at}
+use Rattle.av_rules.specs.Views.{fields, inside}
 
 -- what isn't known is asked for elsewhere
 abbrev pub if_known : (Ty → Bool) → Option Ty → Bool
@@ -126,37 +125,47 @@ is_written_as (Some text) t = if_both same_type (spelled text) t
 -- one type, or none, is written for each operand and for each result, where their number is known
 abbrev pub writes_types : Row → Site → Bool
 writes_types row site =
-    pointwise is_written_as (out-Node site.node).in_types (operand_types site)
-    && option_map_or (pointwise is_written_as (out-Node site.node).out_types) (result_types row site) true
+    pointwise is_written_as (fields site.node).in_types (operand_types site)
+    && option_map_or (pointwise is_written_as (fields site.node).out_types) (result_types row site) true
 
 -- the types that an attribute has in it; those of a function type are its inputs and results
 abbrev pub parts_of_type : TypeText → TypeText-F TypeText → List TypeText
 parts_of_type t (type.Func inputs results) = inputs ++ results
 parts_of_type t _ = t ∷ []
 
-abbrev pub types_step : Attr-F (List TypeText) (List TypeText) → List TypeText
-types_step (attr.Number n t) = t ∷ []
-types_step (attr.«Type» t) = parts_of_type t (out-TypeText t)
-types_step (attr.List items) = flat_map (λ types. types) items
-types_step (attr.Dictionary items) = flat_map (λ types. types) items
-types_step (attr.Array elem numbers) = elem ∷ []
-types_step (attr.Dense elements t) = t ∷ []
-types_step _ = []
+unfoldable mutual
+  pub types_in : Attr → List TypeText
+  types_in (value.Number n t) = t ∷ []
+  types_in (value.Bool b) = []
+  types_in (value.Quoted text) = []
+  types_in (value.Symbol text) = []
+  types_in (value.«Type» t) = parts_of_type t (out-TypeText t)
+  types_in (value.Map m) = []
+  types_in (value.Set m) = []
+  types_in (value.AliasUse text) = []
+  types_in (value.Hash name words) = []
+  types_in (List' s items) = types_in_items items
+  types_in (Dictionary' s entries) = types_in_entries entries
+  types_in (value.Array elem numbers) = elem ∷ []
+  types_in (value.Dense elements t) = t ∷ []
+  types_in value.Unit = []
 
-abbrev pub named_step : Named-F (List TypeText) (List TypeText) → List TypeText
-named_step e = e.value
+  pub types_in_items : {m : _} → Row_of-Attr m → List TypeText
+  types_in_items end_of-Attr = []
+  types_in_items (more_of-Attr item rest) = types_in item ++ types_in_items rest
 
-unfoldable pub types_in : Attr → List TypeText
-types_in = fold-Attr (List TypeText) (List TypeText) types_step named_step
+  pub types_in_entries : {m : _} → Row_of-Named m → List TypeText
+  types_in_entries end_of-Named = []
+  types_in_entries (more_of-Named name item rest) = types_in item ++ types_in_entries rest
 
 abbrev pub types_of_arguments : Site → List TypeText
-types_of_arguments site = flat_map (λ body. map (λ arg. arg.ty) (out-Body body).args) (out-Node site.node).regions
+types_of_arguments site = flat_map (λ body. map (λ arg. arg.ty) (inside body).args) (fields site.node).regions
 
 -- all types that stand at an operation, but in what is dropped
 abbrev pub types_written : Row → Site → List TypeText
 types_written row site =
-    flat_map option_to_list (out-Node site.node).in_types ++ flat_map option_to_list (out-Node site.node).out_types ++ types_of_arguments site
-    ++ flat_map (λ e. types_in (out-Named e).value) (kept row site.node)
+    flat_map option_to_list (fields site.node).in_types ++ flat_map option_to_list (fields site.node).out_types ++ types_of_arguments site
+    ++ flat_map (λ e. types_in e.value) (kept row site.node)
 
 -- a type that no text writes is one all the same: a vector has no size 0
 abbrev pub is_value_type : Ty → Bool
@@ -178,7 +187,7 @@ argument_types row site _ = Some []
 
 abbrev pub regions_agree : Row → Site → Bool
 regions_agree row site =
-    list_all (λ body. option_map_or (are_typed (out-Body body).args) (argument_types row site row.role) true) (out-Node site.node).regions
+    list_all (λ body. option_map_or (are_typed (inside body).args) (argument_types row site row.role) true) (fields site.node).regions
 
 -- ---- the holder
 -- a terminator in its place hands on what its holder has to give

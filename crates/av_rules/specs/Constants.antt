@@ -13,8 +13,8 @@ use Rattle.av_signatures.specs.declared.signature.Demand.TheVariants as demand
 use Rattle.av_signatures.specs.declared.signature.Place.TheVariants as place
 use Rattle.av_tree.specs.declared.attribute.Attr.{Attr}
 use Rattle.av_tree.specs.declared.attribute.Attr.TheVariants as value
-use Rattle.av_tree.specs.declared.attribute.Element.{Element, Element-F, fold-Element}
-use Rattle.av_tree.specs.declared.attribute.Element.TheOpen as element
+use Rattle.av_tree.specs.declared.attribute.Element.{Element, List', Row_of-Element, end_of-Element, more_of-Element}
+use Rattle.av_tree.specs.declared.attribute.Element.TheVariants as element
 use Rattle.av_types.specs.Relations.{element_of, is_truth}
 use Rattle.av_rules.specs.Entries.{entry_of, numbers_of}
 use Rattle.av_rules.specs.Places.{Site}
@@ -48,14 +48,16 @@ common_sizes (nest ∷ other ∷ nests) = same_sizes nest.sizes (common_sizes (o
 abbrev pub listed : List Nest → Nest
 listed nests = record { sizes = option_map (λ sizes. length nests ∷ sizes) (common_sizes nests); leaves = flat_map (λ nest. nest.leaves) nests }
 
-abbrev pub nest_step : Element-F Nest → Nest
-nest_step (element.Number n) = leaf n false
-nest_step (element.Bool true) = leaf (pos 1) true
-nest_step (element.Bool false) = leaf (pos 0) true
-nest_step (element.List items) = listed items
+unfoldable mutual
+  pub nest_of : Element → Nest
+  nest_of (element.Number n) = leaf n false
+  nest_of (element.Bool true) = leaf (pos 1) true
+  nest_of (element.Bool false) = leaf (pos 0) true
+  nest_of (List' s items) = listed (nests_of items)
 
-unfoldable pub nest_of : Element → Nest
-nest_of = fold-Element Nest nest_step
+  pub nests_of : {m : _} → Row_of-Element m → List Nest
+  nests_of end_of-Element = []
+  nests_of (more_of-Element item rest) = nest_of item ∷ nests_of rest
 
 -- ---- what fits
 -- from -2 ^ (w - 1) to 2 ^ w - 1 at width w

@@ -10,8 +10,7 @@ use Rattle.av_signatures.specs.declared.signature.Role.{Role}
 use Rattle.av_signatures.specs.declared.signature.Role.TheVariants as role
 use Rattle.av_signatures.specs.declared.signature.Source.{Source}
 use Rattle.av_signatures.specs.declared.signature.Source.TheVariants as source
-use Rattle.av_tree.specs.declared.node.Body.{Body, out-Body}
-use Rattle.av_tree.specs.declared.node.Node.{out-Node}
+use Rattle.av_tree.specs.declared.node.Body.{Body}
 use Rattle.av_tree.specs.declared.written.TypeText.{TypeText, MemRef, Vector}
 use Rattle.av_rules.specs.Names.{count_in, count_named, differ, names_in}
 use Rattle.av_rules.specs.Places.{Holder, Site}
@@ -19,10 +18,11 @@ use Rattle.av_rules.specs.Rows.{Row, ends_with, is_end_of}
 use Rattle.av_rules.specs.Scopes.{Scope, is_visible}
 use Rattle.av_rules.specs.Sites.{held_by, outside}
 use Rattle.av_rules.specs.Typing.{carried_count}
+use Rattle.av_rules.specs.Views.{fields, inside}
 
 -- ---- operands
 abbrev pub operand_count : Site → ℕ
-operand_count site = length (out-Node site.node).operands
+operand_count site = length (fields site.node).operands
 
 -- the sizes of a written type; none where it has no sizes at all
 abbrev pub sizes_written : TypeText → Option ℕ
@@ -31,9 +31,9 @@ sizes_written (Vector dims elem) = Some (length dims)
 sizes_written _ = None
 
 abbrev pub written_at : Site → Place → Option TypeText
-written_at site (place.Operand k) = option_flatten (slice_get (out-Node site.node).in_types k)
+written_at site (place.Operand k) = option_flatten (slice_get (fields site.node).in_types k)
 written_at site (place.FromEnd k) = None
-written_at site place.Result = option_flatten (slice_get (out-Node site.node).out_types 0)
+written_at site place.Result = option_flatten (slice_get (fields site.node).out_types 0)
 
 abbrev pub counts : Site → Count → Bool
 counts site (count.Exactly n) = operand_count site == n
@@ -65,19 +65,19 @@ has_operands row site = counts site row.operands && hands_on_enough row site
 -- how many results the operation has, where that is known: those of the source of its results' types
 abbrev pub count_from : Row → Site → Source → Option ℕ
 count_from row site source.Nothing = Some 0
-count_from row site source.AllWritten = Some (length (out-Node site.node).out_types)
+count_from row site source.AllWritten = Some (length (fields site.node).out_types)
 count_from row site source.Carried = carried_count row site
 count_from row site s = Some 1
 
 -- so many are named, and no text names none
 abbrev pub has_results : Row → Site → Bool
 has_results row site =
-    option_map_or (λ n. count_in (out-Node site.node).results == n) (count_from row site row.source) true
-    && list_all (λ text. not (count_named text == 0)) (out-Node site.node).results
+    option_map_or (λ n. count_in (fields site.node).results == n) (count_from row site row.source) true
+    && list_all (λ text. not (count_named text == 0)) (fields site.node).results
 
 -- ---- names
 abbrev pub sees_operands : Site → Bool
-sees_operands site = list_all (is_visible site.scope) (out-Node site.node).operands
+sees_operands site = list_all (is_visible site.scope) (fields site.node).operands
 
 -- names differ from each other and from those that are visible
 abbrev pub are_new : Scope → List (List ℕ) → Bool
@@ -86,5 +86,5 @@ are_new scope names = differ names && not (list_any (is_visible scope) names)
 -- the names of the results, and of the arguments of each region
 abbrev pub names_new : Site → Bool
 names_new site =
-    are_new site.scope (names_in (out-Node site.node).results)
-    && list_all (λ body. are_new (outside (held_by site) site.scope) (map (λ arg. arg.name) (out-Body body).args)) (out-Node site.node).regions
+    are_new site.scope (names_in (fields site.node).results)
+    && list_all (λ body. are_new (outside (held_by site) site.scope) (map (λ arg. arg.name) (inside body).args)) (fields site.node).regions

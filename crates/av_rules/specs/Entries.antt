@@ -13,23 +13,24 @@ use Rattle.av_signatures.specs.Rows.{Property, dropped, dropped_of_functions}
 use Rattle.av_tree.specs.declared.attribute.Alias.{Alias}
 use Rattle.av_tree.specs.declared.attribute.Attr.{Attr}
 use Rattle.av_tree.specs.declared.attribute.Attr.TheVariants as attr
-use Rattle.av_tree.specs.declared.attribute.Named.{Named, out-Named}
-use Rattle.av_tree.specs.declared.node.Node.{Node, out-Node}
+use Rattle.av_tree.specs.declared.attribute.Named.{Named}
+use Rattle.av_tree.specs.declared.node.Node.{Node}
 use Rattle.av_tree.specs.declared.written.TypeText.{TypeText, TypeText-F, Scalar, out-TypeText}
 use Rattle.av_tree.specs.declared.written.TypeText.TheOpen as type
 use Rattle.av_maps.specs.Names.{map_in, set_in}
 use Rattle.av_rules.specs.Names.{is_among}
 use Rattle.av_rules.specs.Rows.{Row, is_function, is_module}
+use Rattle.av_rules.specs.Views.{fields}
 
 abbrev pub entries : Node → List Named
-entries node = (out-Node node).properties ++ (out-Node node).attrs
+entries node = (fields node).properties ++ (fields node).attrs
 
 abbrev pub is_entry : List ℕ → Named → Bool
-is_entry name e = bytes_eq (out-Named e).name name
+is_entry name e = bytes_eq e.name name
 
 -- the value of the first entry of this name
 abbrev pub entry_of : List ℕ → Node → Option Attr
-entry_of name node = option_map (λ e. (out-Named e).value) (find (is_entry name) (entries node))
+entry_of name node = option_map (λ e. e.value) (find (is_entry name) (entries node))
 
 -- ---- what is dropped
 abbrev pub mark_name : Mark → List ℕ
@@ -48,7 +49,7 @@ is_dropped row name =
     || (has_dot name && not (bytes_eq name (mark_name row.mark)))
 
 abbrev pub kept : Row → Node → List Named
-kept row node = filter (λ e. not (is_dropped row (out-Named e).name)) (entries node)
+kept row node = filter (λ e. not (is_dropped row e.name)) (entries node)
 
 -- ---- values
 -- the type is a scalar of this name
@@ -143,8 +144,8 @@ property_named row name = find (λ (p : Property). bytes_eq p.name name) row.pro
 -- an entry is a property in its form, or the mark with a value of its form
 abbrev pub is_good : List Alias → Row → Named → Bool
 is_good aliases row e =
-    option_map_or (λ p. has_form aliases p.form (out-Named e).value) (property_named row (out-Named e).name)
-    (bytes_eq (out-Named e).name (mark_name row.mark) && is_mark_value row.mark (out-Named e).value)
+    option_map_or (λ p. has_form aliases p.form e.value) (property_named row e.name)
+    (bytes_eq e.name (mark_name row.mark) && is_mark_value row.mark e.value)
 
 -- ---- the properties of a loop and of positions
 -- how many operands are for the lower bound and for the upper one, and how many values are carried

@@ -1,3 +1,4 @@
+pub mod Views
 pub mod Rows
 pub mod Names
 pub mod Scopes
@@ -13,3 +14,5 @@ pub mod Constants
 pub mod Limits
 pub mod Least
 pub mod Fails
+pub mod Trees
+pub mod Examples

@@ -9,7 +9,6 @@ use Rattle.av_signatures.specs.declared.signature.Mark.TheVariants as mark
 use Rattle.av_signatures.specs.declared.signature.Role.TheVariants as role
 use Rattle.av_signatures.specs.declared.signature.Source.TheVariants as source
 use Rattle.av_shapes.specs.Shape.{product}
-use Rattle.av_tree.specs.declared.node.Node.{out-Node}
 use Rattle.av_tree.specs.declared.written.DimText.{DimText}
 use Rattle.av_tree.specs.declared.written.DimText.TheVariants as dim
 use Rattle.av_tree.specs.declared.written.TypeText.{TypeText, MemRef, Vector}
@@ -23,6 +22,7 @@ use Rattle.av_rules.specs.Places.{Holder, Site, site_row}
 use Rattle.av_rules.specs.Properties.{is_few}
 use Rattle.av_rules.specs.Rows.{Row, is_function, is_module, is_of_scalar_mode}
 use Rattle.av_rules.specs.Sites.{function_name}
+use Rattle.av_rules.specs.Views.{fields}
 
 -- ---- names of functions
 abbrev pub is_new_function : Row → Site → Bool
@@ -40,7 +40,7 @@ most_regions (mode.Scalar shape) = 32
 most_regions _ = 40
 
 abbrev pub has_room : Site → Bool
-has_room site = (length (out-Node site.node).regions == 0) || nat_le (site.depth + 1) (most_regions site.mode)
+has_room site = (length (fields site.node).regions == 0) || nat_le (site.depth + 1) (most_regions site.mode)
 
 abbrev pub is_within : Row → Site → Bool
 is_within row site =

@@ -2,10 +2,11 @@
 use Rattle.std.specs.Prelude.{ℕ, Bool, List, Option, map}
 use Rattle.av_ir.specs.declared.ty.Ty.{Ty}
 use Rattle.av_tree.specs.declared.attribute.Alias.{Alias}
-use Rattle.av_tree.specs.declared.node.Node.{Node, out-Node}
+use Rattle.av_tree.specs.declared.node.Node.{Node}
 use Rattle.av_rules.specs.declared.mode.Mode.{Mode}
 use Rattle.av_rules.specs.Rows.{Row, row_of}
 use Rattle.av_rules.specs.Scopes.{Scope, type_named}
+use Rattle.av_rules.specs.Views.{fields}
 
 -- the operation in whose region another one stands, with the types that the region's terminator hands on, where they are known
 pub record Holder : Type 0 where
@@ -25,11 +26,11 @@ pub record Site : Type 0 where
   pub mode : Mode
 
 abbrev pub name_of : Site → List ℕ
-name_of site = (out-Node site.node).name
+name_of site = (fields site.node).name
 
 abbrev pub site_row : Site → Option Row
 site_row site = row_of (name_of site)
 
 -- the types of its operands, as they are found
 abbrev pub operand_types : Site → List (Option Ty)
-operand_types site = map (type_named site.scope) (out-Node site.node).operands
+operand_types site = map (type_named site.scope) (fields site.node).operands

@@ -21,8 +21,7 @@ use Rattle.av_signatures.specs.declared.signature.Uses.{Uses}
 use Rattle.av_signatures.specs.declared.signature.Uses.TheVariants as uses
 use Rattle.av_signatures.specs.Rows.{Property}
 use Rattle.av_tree.specs.declared.attribute.Attr.{Attr}
-use Rattle.av_tree.specs.declared.attribute.Named.{Named, out-Named}
-use Rattle.av_tree.specs.declared.node.Node.{out-Node}
+use Rattle.av_tree.specs.declared.attribute.Named.{Named}
 use Rattle.av_tree.specs.declared.written.MapText.{MapText}
 use Rattle.av_tree.specs.declared.written.SetText.{SetText}
 use Rattle.av_types.specs.Relations.{rank_of}
@@ -31,6 +30,7 @@ use Rattle.av_rules.specs.Places.{Site}
 use Rattle.av_rules.specs.Rows.{Row}
 use Rattle.av_rules.specs.Scopes.{role_named}
 use Rattle.av_rules.specs.Typing.{has_segments, type_at}
+use Rattle.av_rules.specs.Views.{fields}
 
 -- ---- what stands at the operation
 abbrev pub has_needed : Row → Site → Bool
@@ -38,7 +38,7 @@ has_needed row site = list_all (λ (p : Property). is_some (entry_of p.name site
 
 -- the entry's name stands once
 abbrev pub is_once : List Named → Named → Bool
-is_once entries e = count_by (is_entry (out-Named e).name) entries == 1
+is_once entries e = count_by (is_entry e.name) entries == 1
 
 abbrev pub has_good_entries : Row → Site → Bool
 has_good_entries row site =
@@ -51,15 +51,15 @@ parts site = unwrap_or (segments_of site.node) (record { lower = 0; upper = 0; c
 
 -- the operands that a map takes
 abbrev pub used_by : Site → Uses → List (List ℕ)
-used_by site (uses.From k) = drop k (out-Node site.node).operands
-used_by site (uses.Segment segment.Lower) = take (parts site).lower (out-Node site.node).operands
-used_by site (uses.Segment segment.Upper) = take (parts site).upper (drop (parts site).lower (out-Node site.node).operands)
+used_by site (uses.From k) = drop k (fields site.node).operands
+used_by site (uses.Segment segment.Lower) = take (parts site).lower (fields site.node).operands
+used_by site (uses.Segment segment.Upper) = take (parts site).upper (drop (parts site).lower (fields site.node).operands)
 
 -- the three parts are all operands
 abbrev pub are_parted : Row → Site → Bool
 are_parted row site =
     not (has_segments row)
-    || option_map_or (λ (s : Segments). s.lower + s.upper + s.carried == length (out-Node site.node).operands) (segments_of site.node) false
+    || option_map_or (λ (s : Segments). s.lower + s.upper + s.carried == length (fields site.node).operands) (segments_of site.node) false
 
 -- as many results as there have to be
 abbrev pub is_amount : Site → Amount → ℕ → Bool

@@ -12,8 +12,8 @@ use Rattle.av_signatures.specs.declared.signature.Arguments.TheVariants as argum
 use Rattle.av_signatures.specs.declared.signature.Ending.TheVariants as ending
 use Rattle.av_signatures.specs.declared.signature.Role.{Role as Held}
 use Rattle.av_signatures.specs.declared.signature.Role.TheVariants as role
-use Rattle.av_tree.specs.declared.node.Node.{Node, Node-F, fold-Node, out-Node}
-use Rattle.av_tree.specs.declared.node.Body.{Body, Body-F, out-Body}
+use Rattle.av_tree.specs.declared.node.Node.{Node, Node', Row_of-Body, end_of-Body, more_of-Body}
+use Rattle.av_tree.specs.declared.node.Body.{Body, Body', Row_of-Node, end_of-Node, more_of-Node}
 use Rattle.av_tree.specs.declared.node.BodyArg.{BodyArg}
 use Rattle.av_tree.specs.declared.node.Tree.{Tree}
 use Rattle.av_types.specs.Relations.{same_type}
@@ -24,6 +24,7 @@ use Rattle.av_rules.specs.Places.{Holder, Site, name_of, site_row}
 use Rattle.av_rules.specs.Rows.{Row, is_function, is_module}
 use Rattle.av_rules.specs.Scopes.{Scope, Visible, role_named}
 use Rattle.av_rules.specs.Typing.{index_type, result_types, spelled, type_in}
+use Rattle.av_rules.specs.Views.{fields, inside}
 
 -- ---- what values are in maps
 abbrev pub is_index : Option Ty → Bool
@@ -39,7 +40,7 @@ abbrev pub result_role : Site → Option Ty → Role
 result_role site t =
     if not (is_index t) then stands.Plain
     else (if is_in_function site || bytes_eq (name_of site) (codes "arith.constant") || bytes_eq (name_of site) (codes "memref.dim") then stands.Symbol
-    else (if bytes_eq (name_of site) (codes "affine.apply") then applied_role (map (role_named site.scope) (out-Node site.node).operands)
+    else (if bytes_eq (name_of site) (codes "affine.apply") then applied_role (map (role_named site.scope) (fields site.node).operands)
     else stands.Plain))
 
 -- ---- definitions
@@ -65,7 +66,7 @@ with_name site names = if option_map_or (λ row. is_function row.role) (site_row
 -- what is known behind an operation
 abbrev pub behind : Site → Site
 behind site = record site {
-  scope = with_results site (types_of_results site) 0 (names_in (out-Node site.node).results) site.scope;
+  scope = with_results site (types_of_results site) 0 (names_in (fields site.node).results) site.scope;
   earlier = with_name site site.earlier;
 }
 
@@ -105,33 +106,39 @@ abbrev pub within : Site → Body → Site
 within site body = record site {
   holder = Some (record { row = site_row site; hands_on = option_and_then (handed_on site) (site_row site) });
   depth = site.depth + 1;
-  scope = with_arguments (held_by site) 0 (out-Body body).args (outside (held_by site) site.scope);
+  scope = with_arguments (held_by site) 0 (inside body).args (outside (held_by site) site.scope);
   earlier = [];
 }
 
 -- ---- the walk
 -- the operations of a region one after the other: each behind the one before it
 abbrev pub in_order : (Site → List Site) → Site → List Node → List Site
-in_order inside before [] = []
-in_order inside before (node ∷ nodes) =
-    inside (record before { node = node; is_last = length nodes == 0 })
-    ++ in_order inside (behind (record before { node = node })) nodes
+in_order walk before [] = []
+in_order walk before (node ∷ nodes) =
+    walk (record before { node = node; is_last = length nodes == 0 })
+    ++ in_order walk (behind (record before { node = node })) nodes
 
 -- an operation, and then those of its regions, which may be nested so often
 unfoldable pub sites_from : ℕ → Site → List Site
 sites_from zero site = site ∷ []
 sites_from (suc nested) site =
-    site ∷ flat_map (λ body. in_order (sites_from nested) (within site body) (out-Body body).nodes) (out-Node site.node).regions
+    site ∷ flat_map (λ body. in_order (sites_from nested) (within site body) (inside body).nodes) (fields site.node).regions
 
 -- how many operations are in an operation, itself included
-abbrev pub count_body : Body-F ℕ ℕ → ℕ
-count_body body = sum body.nodes
+unfoldable mutual
+  pub operations_in : Node → ℕ
+  operations_in (Node' name place results operands properties attrs s bodies ins outs) = 1 + operations_in_bodies bodies
 
-abbrev pub count_node : Node-F ℕ ℕ → ℕ
-count_node node = 1 + sum node.regions
+  pub operations_in_bodies : {m : _} → Row_of-Body m → ℕ
+  operations_in_bodies end_of-Body = 0
+  operations_in_bodies (more_of-Body body rest) = operations_within body + operations_in_bodies rest
 
-unfoldable pub operations_in : Node → ℕ
-operations_in = fold-Node ℕ ℕ count_body count_node
+  pub operations_within : Body → ℕ
+  operations_within (Body' args s nodes) = operations_in_nodes nodes
+
+  pub operations_in_nodes : {m : _} → Row_of-Node m → ℕ
+  operations_in_nodes end_of-Node = 0
+  operations_in_nodes (more_of-Node node rest) = operations_in node + operations_in_nodes rest
 
 -- the module of a tree
 abbrev pub first_site : Tree → Mode → Site

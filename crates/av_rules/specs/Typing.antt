@@ -13,7 +13,6 @@ use Rattle.av_signatures.specs.declared.signature.Source.{Source}
 use Rattle.av_signatures.specs.declared.signature.Source.TheVariants as source
 use Rattle.av_signatures.specs.Rows.{Property}
 use Rattle.av_signatures.specs.TableLaws.{least}
-use Rattle.av_tree.specs.declared.node.Node.{out-Node}
 use Rattle.av_tree.specs.declared.written.TypeText.{TypeText}
 use Rattle.av_types.specs.Texts.{is_type}
 use Rattle.av_types.specs.Types.{named_type}
@@ -21,6 +20,7 @@ use Rattle.av_types.specs.Relations.{element_of, part_of, rank_of, sized, truths
 use Rattle.av_rules.specs.Entries.{numbers_of, segments_of}
 use Rattle.av_rules.specs.Places.{Site, operand_types}
 use Rattle.av_rules.specs.Rows.{Row}
+use Rattle.av_rules.specs.Views.{fields}
 
 -- the type that is written, within its limits or not
 abbrev pub spelled : TypeText → Option Ty
@@ -36,7 +36,7 @@ type_in types k = option_flatten (slice_get types k)
 
 -- the type of an operand, as found; of the result, as written
 abbrev pub written_result : Site → ℕ → Option Ty
-written_result site k = option_and_then spelled (option_flatten (slice_get (out-Node site.node).out_types k))
+written_result site k = option_and_then spelled (option_flatten (slice_get (fields site.node).out_types k))
 
 abbrev pub type_at : Site → Place → Option Ty
 type_at site (place.Operand k) = type_in (operand_types site) k
@@ -92,7 +92,7 @@ result_type site (source.Picked p) = picked_at (type_at site p) (numbers_of (cod
 -- the types of all results, where their number is known
 abbrev pub types_from : Row → Site → Source → Option (List (Option Ty))
 types_from row site source.Nothing = Some []
-types_from row site source.AllWritten = Some (map (λ t. option_and_then spelled t) (out-Node site.node).out_types)
+types_from row site source.AllWritten = Some (map (λ t. option_and_then spelled t) (fields site.node).out_types)
 types_from row site source.Carried = carried_types row site
 types_from row site s = Some (result_type site s ∷ [])
 

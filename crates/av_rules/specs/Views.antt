@@ -1,0 +1,46 @@
+-- What an operation and a region have, read off the tree.
+use Rattle.std.specs.Prelude.{ℕ, ◌≡◌, List, [], ◌∷◌, Option}
+use Rattle.av_tree.specs.declared.attribute.Named.{Named}
+use Rattle.av_tree.specs.declared.node.Node.{Node, Node', Row_of-Body, end_of-Body, more_of-Body, out-Node}
+use Rattle.av_tree.specs.declared.node.Body.{Body, Body', Row_of-Node, end_of-Node, more_of-Node, out-Body}
+use Rattle.av_tree.specs.declared.node.BodyArg.{BodyArg}
+use Rattle.av_tree.specs.declared.written.TypeText.{TypeText}
+
+-- the fields of an operation
+pub record Fields : Type 0 where
+  pub name : List ℕ
+  pub results : List (List ℕ)
+  pub operands : List (List ℕ)
+  pub properties : List Named
+  pub attrs : List Named
+  pub regions : List Body
+  pub in_types : List (Option TypeText)
+  pub out_types : List (Option TypeText)
+
+unfoldable pub bodies_in : {m : _} → Row_of-Body m → List Body
+bodies_in end_of-Body = []
+bodies_in (more_of-Body body rest) = body ∷ bodies_in rest
+
+unfoldable pub fields : Node → Fields
+fields (Node' name place results operands properties attrs s bodies ins outs) = record {
+  name = name;
+  results = results;
+  operands = operands;
+  properties = properties;
+  attrs = attrs;
+  regions = bodies_in bodies;
+  in_types = ins;
+  out_types = outs;
+}
+
+-- the arguments and the operations of a region
+pub record Inside : Type 0 where
+  pub args : List BodyArg
+  pub nodes : List Node
+
+unfoldable pub nodes_in : {m : _} → Row_of-Node m → List Node
+nodes_in end_of-Node = []
+nodes_in (more_of-Node node rest) = node ∷ nodes_in rest
+
+unfoldable pub inside : Body → Inside
+inside (Body' args s nodes) = record { args = args; nodes = nodes_in nodes }
