@@ -62,7 +62,12 @@ fn normal_numbers(alloc: Global, m: &AffMap, given: &[No]) -> Result<MapUse, All
     } else {
         given.len()
     };
-    over_values(alloc, &given[..split], &given[split..], m.results.as_slice())
+    over_values(
+        alloc,
+        &given[..split],
+        &given[split..],
+        m.results.as_slice(),
+    )
 }
 
 // Expressions over the values that occur, and these values.

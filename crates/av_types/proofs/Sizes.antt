@@ -1,12 +1,12 @@
 -- The sizes of a vector type that is taken are those of a shape.
-use Rattle.std.proofs.Common.{◌≡◌, ℕ, ◌*◌, ◌<◌, ◌≤◌, zero, suc, true, Bool, List, [], ◌∷◌, length, get_or, arith, map, ◌&&◌, nat_lt}
+use Rattle.std.proofs.Common.{drop, take, subst, sym, ◌-◌, ◌≡◌, ℕ, ◌*◌, ◌<◌, ◌≤◌, zero, suc, true, Bool, List, [], ◌∷◌, length, get_or, arith, map, ◌&&◌, nat_lt}
 use Rattle.std.specs.Prelude.{nat_le, is_some}
-use Rattle.std.proofs.lemmas.List.{length-map}
+use Rattle.std.proofs.lemmas.List.{length-drop, length-map, take_all}
 use Rattle.std.specs.List.{list_all}
 use Rattle.std.proofs.Math.Nat.{mul-le-mul}
 use Rattle.std.proofs.lemmas.Bool.Decides.{nat_tests}
 use Rattle.av_shapes.specs.Shape.{AreSizes, product}
-use Rattle.av_shapes.proofs.Products.{factors, le-product_first, le-product_second}
+use Rattle.av_shapes.proofs.Products.{factors, le-product_first, le-product_second, rest-positive}
 use Rattle.av_tree.specs.declared.written.DimText.{DimText}
 use Rattle.av_tree.specs.declared.written.DimText.TheVariants.{Fixed, Dynamic, Scalable}
 use Rattle.av_tree.specs.declared.written.TypeText.{Vector}
@@ -54,3 +54,19 @@ taken_sizes dims name h =
     let a = asked_of (is_some (elem_of name)) dims (is_trailing (Vector dims name)) h in
     let e : length (map size_of dims) ≡ length dims = length-map dims size_of in
     (omega arith, omega arith, all_positive dims a.1, a.3)
+
+product_behind : (ns : List ℕ) (k : ℕ) → 1 ≤ product ns → product (drop k ns) ≤ product ns
+product_behind ns zero h = omega arith
+product_behind [] (suc k) h = omega arith
+product_behind (n ∷ ns) (suc k) h =
+    let f = factors n (product ns) h in
+    omega (arith, product_behind ns k f.1, le-product_second n (product ns) f.0)
+
+-- what is left of the sizes of a shape, if there is something, is a shape's
+pub sizes_behind : (ns : List ℕ) (k : ℕ) → AreSizes ns → k < length ns → AreSizes (take (length ns - k) (drop k ns))
+sizes_behind ns k are below =
+    let e : length (drop k ns) ≡ length ns - k = length-drop k ns in
+    let whole : take (length ns - k) (drop k ns) ≡ drop k ns = take_all (length ns - k) (drop k ns) (omega arith) in
+    let left : AreSizes (drop k ns) =
+    (omega arith, omega (arith, are.1), rest-positive ns k are.2, omega (arith, product_behind ns k are.2, are.3)) in
+    subst (λ ms. AreSizes ms) (sym whole) left

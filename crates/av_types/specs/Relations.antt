@@ -10,7 +10,7 @@ use Rattle.av_ir.specs.declared.ty.Extent.{Extent}
 use Rattle.av_ir.specs.declared.ty.Extent.TheVariants.{Fixed, Dyn}
 use Rattle.av_ir.specs.declared.ty.Ty.{Ty}
 use Rattle.av_ir.specs.declared.ty.Ty.TheVariants.{Scalar, MemRef, Vector}
-use Rattle.av_shapes.specs.Shape.{shape_eq}
+use Rattle.av_shapes.specs.Shape.{ShapeView, shape_eq}
 
 -- ---- classes
 abbrev pub is_scalar : Ty → Bool
@@ -103,10 +103,14 @@ stretch (n ∷ []) scales (m ∷ []) scaled = (n == m && beq scales scaled) || (
 stretch (n ∷ ns) scales (m ∷ ms) scaled = (n == m || n == 1) && stretch ns scales ms scaled
 stretch _ scales _ scaled = false
 
--- a scalar, or a vector whose dimensions are those at the end of the other one's, each the same or stretched from 1
+-- the dimensions are those at the end of another shape's, each the same or stretched from 1
+abbrev pub fits_behind : ShapeView → ShapeView → Bool
+fits_behind shape other =
+    nat_le (length shape.sizes) (length other.sizes)
+    && stretch shape.sizes shape.scalable (drop (length other.sizes - length shape.sizes) other.sizes) other.scalable
+
+-- a scalar, or a vector whose dimensions fit behind, fills a vector with the same elements
 abbrev pub stretches_to : Ty → Ty → Bool
 stretches_to (Scalar a) (Vector other b) = is_elem a b
-stretches_to (Vector shape a) (Vector other b) =
-    is_elem a b && nat_le (length shape.sizes) (length other.sizes)
-    && stretch shape.sizes shape.scalable (drop (length other.sizes - length shape.sizes) other.sizes) other.scalable
+stretches_to (Vector shape a) (Vector other b) = is_elem a b && fits_behind shape other
 stretches_to _ _ = false
