@@ -23,16 +23,15 @@ use Rattle.av_tree.specs.declared.attribute.Attr.TheVariants as value
 use Rattle.av_tree.specs.declared.attribute.Named.{Named}
 use Rattle.av_tree.specs.declared.node.Body.{Body}
 use Rattle.av_tree.specs.declared.node.BodyArg.{BodyArg}
-use Rattle.av_tree.specs.declared.written.TypeText.{TypeText, TypeText-F, out-TypeText}
-use Rattle.av_tree.specs.declared.written.TypeText.TheOpen as type
+use Rattle.av_tree.specs.declared.written.TypeText.{TypeText}
 use Rattle.av_types.specs.Texts.{is_type}
 use Rattle.av_types.specs.Relations.{element_of, is_elem, is_index, is_memref, is_plain, is_truth, is_vector, part_of, rank_of, same_elements, same_sizes, same_type, stretches_to, truths_of}
 use Rattle.av_rules.specs.Counts.{is_in_place}
-use Rattle.av_rules.specs.Entries.{Function, entry_of, function_of, kept, numbers_of}
+use Rattle.av_rules.specs.Entries.{entry_of, function_of, kept, numbers_of}
 use Rattle.av_rules.specs.Places.{Holder, Site, operand_types}
 use Rattle.av_rules.specs.Rows.{Row, is_function}
 use Rattle.av_rules.specs.Typing.{carried_types, index_type, part_at, result_types, spelled, type_at}
-use Rattle.av_rules.specs.Views.{fields, inside}
+use Rattle.av_rules.specs.Views.{Function, function_in, fields, inside}
 
 -- what isn't known is asked for elsewhere
 abbrev pub if_known : (Ty → Bool) → Option Ty → Bool
@@ -129,9 +128,8 @@ writes_types row site =
     && option_map_or (pointwise is_written_as (fields site.node).out_types) (result_types row site) true
 
 -- the types that an attribute has in it; those of a function type are its inputs and results
-abbrev pub parts_of_type : TypeText → TypeText-F TypeText → List TypeText
-parts_of_type t (type.Func inputs results) = inputs ++ results
-parts_of_type t _ = t ∷ []
+abbrev pub parts_of_type : TypeText → List TypeText
+parts_of_type t = option_map_or (λ (f : Function). f.inputs ++ f.results) (function_in t) (t ∷ [])
 
 unfoldable mutual
   pub types_in : Attr → List TypeText
@@ -139,7 +137,7 @@ unfoldable mutual
   types_in (value.Bool b) = []
   types_in (value.Quoted text) = []
   types_in (value.Symbol text) = []
-  types_in (value.«Type» t) = parts_of_type t (out-TypeText t)
+  types_in (value.«Type» t) = parts_of_type t
   types_in (value.Map m) = []
   types_in (value.Set m) = []
   types_in (value.AliasUse text) = []

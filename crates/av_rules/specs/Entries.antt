@@ -15,12 +15,11 @@ use Rattle.av_tree.specs.declared.attribute.Attr.{Attr}
 use Rattle.av_tree.specs.declared.attribute.Attr.TheVariants as attr
 use Rattle.av_tree.specs.declared.attribute.Named.{Named}
 use Rattle.av_tree.specs.declared.node.Node.{Node}
-use Rattle.av_tree.specs.declared.written.TypeText.{TypeText, TypeText-F, Scalar, out-TypeText}
-use Rattle.av_tree.specs.declared.written.TypeText.TheOpen as type
+use Rattle.av_tree.specs.declared.written.TypeText.{TypeText, Scalar}
 use Rattle.av_maps.specs.Names.{map_in, set_in}
 use Rattle.av_rules.specs.Names.{is_among}
 use Rattle.av_rules.specs.Rows.{Row, is_function, is_module}
-use Rattle.av_rules.specs.Views.{fields}
+use Rattle.av_rules.specs.Views.{Function, fields, function_in}
 
 abbrev pub entries : Node → List Named
 entries node = (fields node).properties ++ (fields node).attrs
@@ -76,17 +75,9 @@ abbrev pub text_of : Attr → Option (List ℕ)
 text_of (attr.Quoted name) = Some name
 text_of _ = None
 
--- the inputs and the results of a function type
-pub record Function : Type 0 where
-  pub inputs : List TypeText
-  pub results : List TypeText
-
-abbrev pub function_in : TypeText-F TypeText → Option Function
-function_in (type.Func inputs results) = Some (record { inputs = inputs; results = results })
-function_in _ = None
-
+-- the function type of an entry
 abbrev pub function_of : Attr → Option Function
-function_of (attr.«Type» ty) = function_in (out-TypeText ty)
+function_of (attr.«Type» ty) = function_in ty
 function_of _ = None
 
 -- ---- what a value has to be

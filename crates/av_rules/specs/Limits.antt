@@ -16,13 +16,13 @@ use Rattle.av_types.specs.Texts.{is_trailing, is_vector_text, is_within_limits, 
 use Rattle.av_rules.specs.declared.mode.Mode.{Mode}
 use Rattle.av_rules.specs.declared.mode.Mode.TheVariants as mode
 use Rattle.av_rules.specs.Agreement.{if_known, results_known, types_of_arguments, types_written}
-use Rattle.av_rules.specs.Entries.{Function, entry_of, function_of}
+use Rattle.av_rules.specs.Entries.{entry_of, function_of}
 use Rattle.av_rules.specs.Names.{is_among}
 use Rattle.av_rules.specs.Places.{Holder, Site, site_row}
 use Rattle.av_rules.specs.Properties.{is_few}
 use Rattle.av_rules.specs.Rows.{Row, is_function, is_module, is_of_scalar_mode}
 use Rattle.av_rules.specs.Sites.{function_name}
-use Rattle.av_rules.specs.Views.{fields}
+use Rattle.av_rules.specs.Views.{Function, fields}
 
 -- ---- names of functions
 abbrev pub is_new_function : Row → Site → Bool

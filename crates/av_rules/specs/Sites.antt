@@ -18,13 +18,13 @@ use Rattle.av_tree.specs.declared.node.BodyArg.{BodyArg}
 use Rattle.av_tree.specs.declared.node.Tree.{Tree}
 use Rattle.av_types.specs.Relations.{same_type}
 use Rattle.av_rules.specs.declared.mode.Mode.{Mode}
-use Rattle.av_rules.specs.Entries.{Function, entry_of, function_of, text_of}
+use Rattle.av_rules.specs.Entries.{entry_of, function_of, text_of}
 use Rattle.av_rules.specs.Names.{names_in}
 use Rattle.av_rules.specs.Places.{Holder, Site, name_of, site_row}
 use Rattle.av_rules.specs.Rows.{Row, is_function, is_module}
 use Rattle.av_rules.specs.Scopes.{Scope, Visible, role_named}
 use Rattle.av_rules.specs.Typing.{index_type, result_types, spelled, type_in}
-use Rattle.av_rules.specs.Views.{fields, inside}
+use Rattle.av_rules.specs.Views.{Function, fields, inside}
 
 -- ---- what values are in maps
 abbrev pub is_index : Option Ty → Bool

@@ -14,8 +14,12 @@ use Rattle.av_tree.specs.declared.written.ExprText.TheVariants as expr
 use Rattle.av_tree.specs.declared.written.MapText.{MapText}
 use Rattle.av_tree.specs.declared.written.SizeText.TheVariants as size
 use Rattle.av_tree.specs.declared.written.DimText.TheVariants as dim
-use Rattle.av_tree.specs.declared.written.TypeText.{TypeText}
+use Rattle.av_tree.specs.declared.written.TypeText.{TypeText, Func', Row_of-TypeText, end_of-TypeText, more_of-TypeText}
 use Rattle.av_tree.specs.declared.written.TypeText.TheVariants as type
+
+-- so many things, as the tree holds their number
+abbrev pub shape : {X : Type 0} → List X → List (Unit {0})
+shape xs = map (λ _. tt) xs
 
 -- ---- types
 abbrev pub i32 : TypeText
@@ -34,6 +38,14 @@ buffer = type.MemRef (size.Fixed 4 ∷ []) (codes "i32") None
 -- vector<4xi32>
 abbrev pub four : TypeText
 four = type.Vector (dim.Fixed 4 ∷ []) (codes "i32")
+
+-- (inputs) -> ()
+abbrev pub row_of_types : (types : List TypeText) → Row_of-TypeText (arity (list this) (shape types))
+row_of_types [] = end_of-TypeText
+row_of_types (t ∷ types) = more_of-TypeText t (row_of_types types)
+
+abbrev pub function_type : List TypeText → TypeText
+function_type inputs = Func' (shape inputs) (row_of_types inputs) [] end_of-TypeText
 
 -- ---- entries
 abbrev pub entry : List ℕ → Attr → Named
@@ -55,9 +67,6 @@ bound n = attr.Map (record { dims = []; syms = []; results = expr.Const n ∷ []
 
 -- ---- operations
 -- the operations of a region, and the regions of an operation, as the tree holds them
-abbrev pub shape : {X : Type 0} → List X → List (Unit {0})
-shape xs = map (λ _. tt) xs
-
 abbrev pub row_of_nodes : (nodes : List Node) → Row_of-Node (arity (list this) (shape nodes))
 row_of_nodes [] = end_of-Node
 row_of_nodes (node ∷ nodes) = more_of-Node node (row_of_nodes nodes)
@@ -115,7 +124,7 @@ yield = terminator (codes "affine.yield")
 abbrev pub function : List ℕ → List TypeText → List BodyArg → List Node → Node
 function name inputs args nodes =
     operation (codes "func.func") [] []
-    (entry (codes "function_type") (attr.«Type» (type.Func inputs [])) ∷ entry (codes "sym_name") (attr.Quoted name) ∷ [])
+    (entry (codes "function_type") (attr.«Type» (function_type inputs)) ∷ entry (codes "sym_name") (attr.Quoted name) ∷ [])
     (region args nodes ∷ []) [] []
 
 abbrev pub tree_of : List Node → Tree

@@ -1,10 +1,10 @@
 -- What an operation and a region have, read off the tree.
-use Rattle.std.specs.Prelude.{ℕ, ◌≡◌, List, [], ◌∷◌, Option}
+use Rattle.std.specs.Prelude.{ℕ, List, [], ◌∷◌, Option, Some, None}
 use Rattle.av_tree.specs.declared.attribute.Named.{Named}
-use Rattle.av_tree.specs.declared.node.Node.{Node, Node', Row_of-Body, end_of-Body, more_of-Body, out-Node}
-use Rattle.av_tree.specs.declared.node.Body.{Body, Body', Row_of-Node, end_of-Node, more_of-Node, out-Body}
+use Rattle.av_tree.specs.declared.node.Node.{Node, Node', Row_of-Body, end_of-Body, more_of-Body}
+use Rattle.av_tree.specs.declared.node.Body.{Body, Body', Row_of-Node, end_of-Node, more_of-Node}
 use Rattle.av_tree.specs.declared.node.BodyArg.{BodyArg}
-use Rattle.av_tree.specs.declared.written.TypeText.{TypeText}
+use Rattle.av_tree.specs.declared.written.TypeText.{TypeText, Scalar, MemRef, Vector, Func', Row_of-TypeText, end_of-TypeText, more_of-TypeText}
 
 -- the fields of an operation
 pub record Fields : Type 0 where
@@ -44,3 +44,18 @@ nodes_in (more_of-Node node rest) = node ∷ nodes_in rest
 
 unfoldable pub inside : Body → Inside
 inside (Body' args s nodes) = record { args = args; nodes = nodes_in nodes }
+
+-- the inputs and the results of a function type
+pub record Function : Type 0 where
+  pub inputs : List TypeText
+  pub results : List TypeText
+
+unfoldable pub types_listed : {m : _} → Row_of-TypeText m → List TypeText
+types_listed end_of-TypeText = []
+types_listed (more_of-TypeText t rest) = t ∷ types_listed rest
+
+unfoldable pub function_in : TypeText → Option Function
+function_in (Scalar name) = None
+function_in (MemRef sizes elem layout) = None
+function_in (Vector dims elem) = None
+function_in (Func' s inputs t results) = Some (record { inputs = types_listed inputs; results = types_listed results })
