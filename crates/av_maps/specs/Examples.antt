@@ -1,6 +1,5 @@
 -- Some written maps, and what is asked of them.
-use Rattle.std.specs.Prelude.{◌≡◌, ℕ, ℤ, pos, Bool, true, false, List, [], ◌∷◌, codes, Option, Some, None}
-use Rattle.av_affine.specs.declared.expression.AffMap.{AffMap}
+use Rattle.std.specs.Prelude.{◌≡◌, ℕ, pos, true, false, List, [], ◌∷◌, codes, Some, None}
 use Rattle.av_affine.specs.declared.expression.Expr.TheVariants as expr
 use Rattle.av_affine.specs.declared.expression.Leaf.TheVariants.{Dim, Sym}
 use Rattle.av_tree.specs.declared.attribute.Alias.{Alias}

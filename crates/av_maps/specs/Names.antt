@@ -1,6 +1,7 @@
 -- The parameters of a map or set by their names, and the maps and sets that aliases stand for.
-use Rattle.std.specs.Prelude.{ℕ, Bool, true, false, not, ◌&&◌, List, [], ◌∷◌, ◌++◌, length, filter, position, Option, Some, None, is_some, unwrap_or}
-use Rattle.std.specs.Option.{option_and_then}
+use Rattle.std.specs.Prelude.{ℕ, Bool, true, not, ◌&&◌, List, [], ◌∷◌, length, count_by, find, position, ◌==◌, if◌then◌else◌, Option, Some, None}
+use Rattle.std.specs.List.{list_any}
+use Rattle.std.specs.Option.{option_and_then, option_map}
 use Rattle.std.specs.Str.{bytes_eq}
 use Rattle.av_affine.specs.declared.expression.Leaf.{Leaf}
 use Rattle.av_affine.specs.declared.expression.Leaf.TheVariants.{Dim, Sym}
@@ -24,19 +25,26 @@ leaf_among None None past = Dim past
 abbrev pub leaf_of : List (List ℕ) → List (List ℕ) → List ℕ → Leaf
 leaf_of dims syms name = leaf_among (place_of dims name) (place_of syms name) (length dims)
 
--- no name stands twice
-abbrev pub names_differ : List (List ℕ) → Bool
-names_differ [] = true
-names_differ (name ∷ names) = not (is_some (place_of names name)) && names_differ names
+abbrev pub is_among : List (List ℕ) → List ℕ → Bool
+is_among names name = list_any (λ one. bytes_eq one name) names
+
+-- each of the names differs from those behind it, and from others
+abbrev pub are_own : List (List ℕ) → List (List ℕ) → Bool
+are_own [] others = true
+are_own (name ∷ names) others = not (is_among names name) && not (is_among others name) && are_own names others
+
+-- no parameter stands twice, as a dimension, as a symbol, or as both
+abbrev pub parameters_differ : List (List ℕ) → List (List ℕ) → Bool
+parameters_differ dims syms = are_own dims syms && are_own syms []
 
 -- ---- aliases
--- the value of an alias that is defined just once
-abbrev pub only : List Alias → Option Attr
-only (alias ∷ []) = Some alias.value
-only _ = None
+abbrev pub is_alias : List ℕ → Alias → Bool
+is_alias name alias = bytes_eq alias.name name
 
+-- the value of an alias that is defined just once
 abbrev pub aliased : List Alias → List ℕ → Option Attr
-aliased aliases name = only (filter (λ alias. bytes_eq alias.name name) aliases)
+aliased aliases name =
+    if count_by (is_alias name) aliases == 1 then option_map (λ alias. alias.value) (find (is_alias name) aliases) else None
 
 abbrev pub written_map : Attr → Option MapText
 written_map (Map m) = Some m

@@ -1,9 +1,8 @@
 //! The parameters of maps and sets by their names, and what aliases stand for.
 
-ghost use Rattle.std.specs.Prelude.{◌≡◌, ◌++◌, filter};
-ghost use Rattle.std.specs.Option.{option_copied};
-ghost use Rattle.std.specs.Str.{bytes_eq};
-ghost use Rattle.av_maps.specs.Names.{aliased, leaf_of, map_in, leaf_among, names_differ, place_of, set_in, unaliased};
+ghost use Rattle.std.specs.Prelude.{◌≡◌, None, count_by, find};
+ghost use Rattle.std.specs.Option.{option_copied, option_map};
+ghost use Rattle.av_maps.specs.Names.{aliased, are_own, is_alias, is_among, leaf_among, leaf_of, map_in, parameters_differ, place_of, set_in, unaliased};
 
 use av_affine::{Leaf, No, Text};
 use av_tree::{Alias, Attr, MapText, SetText};
@@ -34,20 +33,57 @@ fn symbol_of(past: usize, syms: &[Text], name: &[u8]) -> Leaf
     }
 }
 
+/// Whether no parameter stands twice, as a dimension, as a symbol, or as both.
+pub(crate) fn parameters_differ(dims: &[Text], syms: &[Text]) -> bool
+    ensures { result ≡ parameters_differ dims.now syms.now }
+{
+    are_own(dims, syms) && are_own(syms, &[])
+}
+
+// Whether each of the names differs from those behind it, and from others.
+fn are_own(names: &[Text], others: &[Text]) -> bool
+    ensures { result ≡ are_own names.now others.now }
+{
+    for at in 0..names.len() {
+        let name = names[at].as_slice();
+        if is_among(&names[at + 1..], name) || is_among(others, name) {
+            return false;
+        }
+    }
+    true
+}
+
+fn is_among(names: &[Text], name: &[u8]) -> bool
+    ensures { result ≡ is_among names.now name.now }
+{
+    names.iter().any(|one| one.as_slice() == name)
+}
+
 // The value of an alias that is defined just once.
 fn aliased<'t>(aliases: &'t [Alias], name: &[u8]) -> Option<&'t Attr>
     ensures { option_copied result ≡ aliased aliases.now name.now }
 {
-    let mut found = None;
-    for alias in aliases {
-        if alias.name.as_slice() == name {
-            if found.is_some() {
-                return None;
-            }
-            found = Some(&alias.value);
-        }
+    if times(aliases, name) == 1 {
+        first(aliases, name)
+    } else {
+        None
     }
-    found
+}
+
+// How often an alias is defined.
+fn times(aliases: &[Alias], name: &[u8]) -> usize
+    ensures { result ≡ count_by (is_alias name.now) aliases.now }
+{
+    let named = aliases.iter().filter(|alias| alias.name.as_slice() == name);
+    named.count()
+}
+
+// The value of the first alias of this name.
+fn first<'t>(aliases: &'t [Alias], name: &[u8]) -> Option<&'t Attr>
+    ensures { option_copied result ≡ option_map (λ alias. alias.value) (find (is_alias name.now) aliases.now) }
+{
+    let found = aliases.iter().find(|alias| alias.name.as_slice() == name)?;
+    Some(&found.value)
 }
 
 // What an attribute is, where it may be the use of an alias.

@@ -1,9 +1,8 @@
 -- Some written types, and what they are.
-use Rattle.std.specs.Prelude.{◌≡◌, ℕ, ◌^◌, Bool, true, false, List, [], ◌∷◌, codes, Option, Some, None}
-use Rattle.av_bits.specs.declared.types.Width.TheVariants.{W1, W8, W32}
+use Rattle.std.specs.Prelude.{◌≡◌, Bool, true, false, [], ◌∷◌, codes, Some, None}
+use Rattle.av_bits.specs.declared.types.Width.TheVariants.{W8, W32}
 use Rattle.av_ir.specs.declared.ty.Elem.TheVariants.{Int, Index}
 use Rattle.av_ir.specs.declared.ty.Extent.TheVariants as extent
-use Rattle.av_ir.specs.declared.ty.Ty.{Ty}
 use Rattle.av_ir.specs.declared.ty.Ty.TheVariants as ty
 use Rattle.av_tree.specs.declared.written.DimText.TheVariants as dim
 use Rattle.av_tree.specs.declared.written.SizeText.TheVariants as size

@@ -1,5 +1,5 @@
 -- Classes of types, and how the types of an operation's values are related.
-use Rattle.std.specs.Prelude.{ℕ, ◌+◌, ◌-◌, ◌==◌, nat_le, Bool, true, false, not, ◌&&◌, ◌||◌, if◌then◌else◌, List, [], ◌∷◌, length, drop}
+use Rattle.std.specs.Prelude.{ℕ, ◌-◌, ◌==◌, nat_le, Bool, true, false, not, ◌&&◌, ◌||◌, List, [], ◌∷◌, length, drop}
 use Rattle.std.specs.Bool.{beq}
 use Rattle.std.specs.Cmp.Lexicographic.{pointwise}
 use Rattle.av_bits.specs.declared.types.Width.TheVariants.{W1}
@@ -103,10 +103,14 @@ stretch (n ∷ []) scales (m ∷ []) scaled = (n == m && beq scales scaled) || (
 stretch (n ∷ ns) scales (m ∷ ms) scaled = (n == m || n == 1) && stretch ns scales ms scaled
 stretch _ scales _ scaled = false
 
--- a scalar, or a vector whose dimensions are those at the end of the other one's, each the same or stretched from 1
+-- the dimensions are those at the end of another shape's, each the same or stretched from 1
+abbrev pub fits_behind : ShapeView → ShapeView → Bool
+fits_behind shape other =
+    nat_le (length shape.sizes) (length other.sizes)
+    && stretch shape.sizes shape.scalable (drop (length other.sizes - length shape.sizes) other.sizes) other.scalable
+
+-- a scalar, or a vector whose dimensions fit behind, fills a vector with the same elements
 abbrev pub stretches_to : Ty → Ty → Bool
 stretches_to (Scalar a) (Vector other b) = is_elem a b
-stretches_to (Vector shape a) (Vector other b) =
-    is_elem a b && nat_le (length shape.sizes) (length other.sizes)
-    && stretch shape.sizes shape.scalable (drop (length other.sizes - length shape.sizes) other.sizes) other.scalable
+stretches_to (Vector shape a) (Vector other b) = is_elem a b && fits_behind shape other
 stretches_to _ _ = false

@@ -1,6 +1,6 @@
 -- What is asked of a type as it is written: whether there is such a type, its limits, and where its size may be scalable.
-use Rattle.std.specs.Prelude.{ℕ, ◌^◌, nat_le, nat_lt, Bool, true, false, not, ◌&&◌, if◌then◌else◌, List, [], ◌∷◌, length, map, codes, Option, Some, None, is_some, is_none}
-use Rattle.std.specs.List.{list_all}
+use Rattle.std.specs.Prelude.{ℕ, ◌-◌, ◌^◌, nat_le, nat_lt, Bool, true, false, not, ◌&&◌, if◌then◌else◌, List, length, map, take, codes, Option, Some, None, is_some, is_none}
+use Rattle.std.specs.List.{list_all, list_any}
 use Rattle.std.specs.Str.{bytes_eq}
 use Rattle.av_bits.specs.declared.types.Width.TheVariants.{W1, W8, W16, W32, W64}
 use Rattle.av_ir.specs.declared.ty.Elem.{Elem}
@@ -60,11 +60,9 @@ is_within_limits (MemRef sizes name layout) = is_none layout && nat_le (length s
 is_within_limits (Vector dims name) = nat_le (length dims) 3 && nat_le (product (map size_of dims)) 256
 is_within_limits _ = true
 
--- no dimension but the last is scalable
+-- no dimension before the last is scalable
 abbrev pub scales_last : List DimText → Bool
-scales_last [] = true
-scales_last (d ∷ []) = true
-scales_last (d ∷ e ∷ dims) = not (is_scalable d) && scales_last (e ∷ dims)
+scales_last dims = not (list_any is_scalable (take (length dims - 1) dims))
 
 abbrev pub is_trailing : TypeText → Bool
 is_trailing (Vector dims name) = scales_last dims

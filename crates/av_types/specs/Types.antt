@@ -1,8 +1,7 @@
 -- The type that a written type is, where all that is asked of it holds.
-use Rattle.std.specs.Prelude.{ℕ, Bool, ◌&&◌, if◌then◌else◌, List, map, Option, None}
+use Rattle.std.specs.Prelude.{Bool, ◌&&◌, if◌then◌else◌, List, map, Option, None}
 use Rattle.std.specs.List.{list_any}
 use Rattle.std.specs.Option.{option_map}
-use Rattle.av_ir.specs.declared.ty.Elem.{Elem}
 use Rattle.av_ir.specs.declared.ty.Extent.{Extent}
 use Rattle.av_ir.specs.declared.ty.Extent.TheVariants as extent
 use Rattle.av_ir.specs.declared.ty.Ty.{Ty}

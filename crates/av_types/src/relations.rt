@@ -1,13 +1,15 @@
 //! Classes of types, and how two types are related.
 
-ghost use Rattle.std.specs.Prelude.{◌≡◌};
+ghost use Rattle.std.specs.Prelude.{◌≡◌, [], ◌∷◌, IfOk};
 ghost use Rattle.std.specs.Cmp.Lexicographic.{pointwise};
 ghost use Rattle.av_ir.specs.declared.ty.Ty.TheVariants.{MemRef, Scalar, Vector};
 ghost use Rattle.av_ir.specs.declared.ty.Extent.TheVariants.{Fixed};
-ghost use Rattle.av_types.specs.Relations.{element_of, is_elem, is_extent, is_memref, is_scalar, is_vector, rank_of, same_elements, same_sizes, same_type};
+ghost use Rattle.av_types.specs.Relations.{element_of, fits_behind, is_elem, is_extent, is_memref, is_scalar, is_vector, part_of, rank_of, same_elements, same_sizes, same_type, stretch, stretches_to, with_elements};
 
+use av_affine::Duplicate;
 use av_ir::{Elem, Extent, Ty};
 use av_shapes::Shape;
+use std::alloc::{AllocError, Global};
 
 /// Whether a type is that of one integer or index.
 pub fn is_scalar(ty: &Ty) -> bool
@@ -137,4 +139,106 @@ pub fn same_type(a: &Ty, b: &Ty) -> bool
     ensures { result ≡ same_type a.now b.now }
 {
     same_sizes(a, b) && same_elements(a, b)
+}
+
+/// The type of this form and these sizes with other elements.
+///
+/// # Errors
+///
+/// Want of memory.
+pub fn with_elements(alloc: Global, ty: &Ty, elem: Elem) -> Result<Ty, AllocError>
+    ensures { IfOk result (λ t. t ≡ with_elements ty.now elem) }
+{
+    match ty {
+        Ty::Scalar(_) => Ok(Ty::Scalar(elem)),
+        Ty::MemRef { sizes, .. } => Ok(Ty::MemRef {
+            sizes: sizes.duplicate(alloc)?,
+            elem,
+        }),
+        Ty::Vector { shape, .. } => Ok(Ty::Vector {
+            shape: shape.copy(),
+            elem,
+        }),
+    }
+}
+
+/// The type of what stands at so many positions of the leading dimensions of a vector.
+///
+/// # Errors
+///
+/// Want of memory.
+pub fn part_of(alloc: Global, ty: &Ty, positions: usize) -> Result<Ty, AllocError>
+    ensures { IfOk result (λ t. t ≡ part_of ty.now positions) }
+{
+    match ty {
+        Ty::Vector { shape, elem } => Ok(part(alloc, shape, *elem, positions)),
+        _ => ty.duplicate(alloc),
+    }
+}
+
+fn part(alloc: Global, shape: &Shape, elem: Elem, positions: usize) -> Ty
+    ensures { result ≡ part_of (Vector shape.now elem) positions }
+{
+    if positions < shape.rank() {
+        let shape = Shape::new(alloc, &shape.sizes()[positions..], shape.is_scalable());
+        Ty::Vector { shape, elem }
+    } else {
+        Ty::Scalar(elem)
+    }
+}
+
+/// Whether values of a type can be repeated and stretched to fill vectors of another one.
+pub fn stretches_to(a: &Ty, b: &Ty) -> bool
+    ensures { result ≡ stretches_to a.now b.now }
+{
+    match b {
+        Ty::Vector { shape, elem } => fills(a, shape, *elem),
+        _ => false,
+    }
+}
+
+fn fills(ty: &Ty, other: &Shape, to: Elem) -> bool
+    ensures { result ≡ stretches_to ty.now (Vector other.now to) }
+{
+    match ty {
+        Ty::Scalar(elem) => is_elem(*elem, to),
+        Ty::MemRef { .. } => false,
+        Ty::Vector { shape, elem } => is_elem(*elem, to) && fits_behind(shape, other),
+    }
+}
+
+// Whether the dimensions are those at the end of another shape's, each the same or stretched from 1.
+fn fits_behind(shape: &Shape, other: &Shape) -> bool
+    ensures { result ≡ fits_behind shape.now other.now }
+{
+    if shape.rank() <= other.rank() {
+        let behind = &other.sizes()[other.rank() - shape.rank()..];
+        stretch(shape.sizes(), shape.is_scalable(), behind, other.is_scalable())
+    } else {
+        false
+    }
+}
+
+fn stretch(sizes: &[u16], scales: bool, others: &[u16], scaled: bool) -> bool
+    ensures { result ≡ stretch sizes.now scales others.now scaled }
+{
+    match sizes {
+        [] => others.is_empty(),
+        [size] => stretches_last(*size, scales, others, scaled),
+        [size, sizes @ ..] => match others {
+            [] => false,
+            [other, others @ ..] => {
+                (*size == *other || *size == 1) && stretch(sizes, scales, others, scaled)
+            }
+        },
+    }
+}
+
+fn stretches_last(size: u16, scales: bool, others: &[u16], scaled: bool) -> bool
+    ensures { result ≡ stretch (size ∷ []) scales others.now scaled }
+{
+    match others {
+        [other] => (size == *other && scales == scaled) || (size == 1 && !scales),
+        _ => false,
+    }
 }

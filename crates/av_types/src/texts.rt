@@ -1,7 +1,7 @@
 //! What is asked of a type as it is written.
 
 ghost use Rattle.std.specs.Prelude.{◌≡◌, ◌-◌, ◌^◌, min, map};
-ghost use Rattle.std.specs.List.{list_all};
+ghost use Rattle.std.specs.List.{list_all, list_any};
 ghost use Rattle.av_shapes.specs.Shape.{product};
 ghost use Rattle.av_tree.specs.declared.written.TypeText.{MemRef, Vector};
 ghost use Rattle.av_types.specs.Texts.{elem_of, is_positive, is_scalable, is_small, is_trailing, is_type, is_vector_text, is_within_limits, scales_last, size_of};
@@ -127,8 +127,14 @@ pub(crate) fn size_of(dim: DimText) -> u128
     }
 }
 
-/// Whether a dimension counts times the scale.
-pub(crate) fn is_scalable(dim: DimText) -> bool
+/// Whether some dimension counts times the scale.
+pub(crate) fn are_scalable(dims: &[DimText]) -> bool
+    ensures { result ≡ list_any is_scalable dims.now }
+{
+    dims.iter().any(|dim| is_scalable(*dim))
+}
+
+fn is_scalable(dim: DimText) -> bool
     ensures { result ≡ is_scalable dim }
 {
     matches!(dim, DimText::Scalable(_))
@@ -147,12 +153,7 @@ pub fn is_trailing(ty: &TypeText) -> bool
 fn scales_last(dims: &[DimText]) -> bool
     ensures { result ≡ scales_last dims.now }
 {
-    for at in 1..dims.len() {
-        if is_scalable(dims[at - 1]) {
-            return false;
-        }
-    }
-    true
+    !are_scalable(&dims[..dims.len().saturating_sub(1)])
 }
 
 /// Whether a written type is that of vectors.

@@ -2,11 +2,12 @@
 
 ghost use Rattle.std.specs.Prelude.{◌≡◌, ◌≤◌, true, All, IfOk, map, None};
 ghost use Rattle.std.specs.List.{list_all};
+ghost use Rattle.av_shapes.specs.Shape.{AreSizes};
 ghost use Rattle.av_tree.specs.declared.written.TypeText.{MemRef, Vector};
 ghost use Rattle.av_types.specs.Texts.{is_small, size_of};
 ghost use Rattle.av_types.specs.Types.{extent_of, is_taken, named_type, shape_of, type_of};
 
-use super::texts::{elem_of, is_scalable, is_trailing, is_type, is_within_limits, size_of};
+use super::texts::{are_scalable, elem_of, is_trailing, is_type, is_within_limits, size_of};
 use av_affine::Seq;
 use av_ir::{Extent, Ty};
 use av_shapes::Shape;
@@ -89,14 +90,20 @@ fn vector(alloc: Global, dims: &[DimText], name: &[u8]) -> Result<Option<Ty>, Al
     let Some(elem) = elem_of(name) else {
         return Ok(None);
     };
-    let sizes = sizes_of(alloc, dims)?;
-    let scalable = dims.iter().any(|dim| is_scalable(*dim));
-    let shape = Shape::new(alloc, sizes.as_slice(), scalable);
+    let shape = shape_of(alloc, dims)?;
     Ok(Some(Ty::Vector { shape, elem }))
 }
 
+fn shape_of(alloc: Global, dims: &[DimText]) -> Result<Shape, AllocError>
+    requires { AreSizes (map size_of dims.now) }
+    ensures { IfOk result (λ s. s ≡ shape_of dims.now) }
+{
+    let sizes = sizes_of(alloc, dims)?;
+    Ok(Shape::new(alloc, sizes.as_slice(), are_scalable(dims)))
+}
+
 fn sizes_of(alloc: Global, dims: &[DimText]) -> Result<Seq<u16>, AllocError>
-    requires { All (λ dim. size_of dim ≤ 256) dims.now }
+    requires { AreSizes (map size_of dims.now) }
     ensures { IfOk result (λ s. s ≡ map size_of dims.now) }
 {
     let mut sizes = Seq::new(alloc);
