@@ -1,5 +1,15 @@
 -- The small trees are taken and refused as is said.
 use Rattle.std.proofs.Common.{refl}
+use Rattle.std.specs.Fmt.{digits}
+use Rattle.av_affine.specs.Finding.{bound_found}
+use Rattle.av_affine.specs.Limits.{has_parameter, node_count}
+use Rattle.av_affine.specs.Values.{value_of}
+use Rattle.av_forms.specs.Normalised.{parameters}
+use Rattle.av_tree.specs.declared.written.ExprText.TheBlock.{shape-the_row-ExprText-0, hidden-the_row-ExprText-0}
+use Rattle.av_affine.specs.declared.expression.Expr.TheBlock.{shape-the_row-Expr-0, hidden-the_row-Expr-0}
+use denote.Hole.Carrier.{hidden}
+use Rattle.av_maps.specs.Asked.{has_own}
+use Rattle.av_maps.specs.Written.{expr_of}
 use Rattle.av_dialects.specs.Rows.{kinds, predicates}
 use Rattle.av_signatures.specs.Rows.{dropped, dropped_of_functions}
 use Rattle.av_rules.specs.Agreement.{types_in, types_in_items, types_in_entries}
@@ -14,11 +24,11 @@ unfolding rows is_of_scalar_mode dropped dropped_of_functions kinds predicates f
 unknown = (refl, refl)
 
 counts : Counts
-unfolding rows is_of_scalar_mode dropped dropped_of_functions kinds predicates fields bodies_in inside nodes_in function_in types_listed operations_in operations_in_bodies operations_within operations_in_nodes sites_from types_in types_in_items types_in_entries nest_of nests_of
+unfolding rows is_of_scalar_mode dropped dropped_of_functions kinds predicates fields bodies_in inside nodes_in function_in types_listed operations_in operations_in_bodies operations_within operations_in_nodes sites_from types_in types_in_items types_in_entries nest_of nests_of digits
 counts = (refl, refl, refl, refl, refl)
 
 names : Names
-unfolding rows is_of_scalar_mode dropped dropped_of_functions kinds predicates fields bodies_in inside nodes_in function_in types_listed operations_in operations_in_bodies operations_within operations_in_nodes sites_from types_in types_in_items types_in_entries nest_of nests_of
+unfolding rows is_of_scalar_mode dropped dropped_of_functions kinds predicates fields bodies_in inside nodes_in function_in types_listed operations_in operations_in_bodies operations_within operations_in_nodes sites_from types_in types_in_items types_in_entries nest_of nests_of has_own expr_of bound_found has_parameter node_count value_of parameters shape-the_row-ExprText-0 hidden-the_row-ExprText-0 shape-the_row-Expr-0 hidden-the_row-Expr-0 hidden
 names = (refl, refl, refl, refl)
 
 types : Types
@@ -30,7 +40,7 @@ unfolding rows is_of_scalar_mode dropped dropped_of_functions kinds predicates f
 properties = (refl, refl, refl, refl)
 
 maps : Maps
-unfolding rows is_of_scalar_mode dropped dropped_of_functions kinds predicates fields bodies_in inside nodes_in function_in types_listed operations_in operations_in_bodies operations_within operations_in_nodes sites_from types_in types_in_items types_in_entries nest_of nests_of
+unfolding rows is_of_scalar_mode dropped dropped_of_functions kinds predicates fields bodies_in inside nodes_in function_in types_listed operations_in operations_in_bodies operations_within operations_in_nodes sites_from types_in types_in_items types_in_entries nest_of nests_of has_own expr_of bound_found has_parameter node_count value_of parameters shape-the_row-ExprText-0 hidden-the_row-ExprText-0 shape-the_row-Expr-0 hidden-the_row-Expr-0 hidden
 maps = (refl, refl, refl, refl)
 
 steps : Steps
@@ -46,7 +56,7 @@ unfolding rows is_of_scalar_mode dropped dropped_of_functions kinds predicates f
 constants = (refl, refl, refl)
 
 expressions : Expressions
-unfolding rows is_of_scalar_mode dropped dropped_of_functions kinds predicates fields bodies_in inside nodes_in function_in types_listed operations_in operations_in_bodies operations_within operations_in_nodes sites_from types_in types_in_items types_in_entries nest_of nests_of
+unfolding rows is_of_scalar_mode dropped dropped_of_functions kinds predicates fields bodies_in inside nodes_in function_in types_listed operations_in operations_in_bodies operations_within operations_in_nodes sites_from types_in types_in_items types_in_entries nest_of nests_of has_own expr_of bound_found has_parameter node_count value_of parameters shape-the_row-ExprText-0 hidden-the_row-ExprText-0 shape-the_row-Expr-0 hidden-the_row-Expr-0 hidden
 expressions = (refl, refl, refl)
 
 functions : Functions

@@ -1,9 +1,21 @@
 //! What holds of the definitions as a whole, for the proofs of callers. These functions do nothing.
 
+ghost use Rattle.av_rules.specs.Examples.{RuleExamples};
 ghost use Rattle.av_rules.specs.Fails.{LeastLaw};
+ghost use Rattle.av_rules.specs.Views.{ViewsLaw};
 
 /// The pair that is answered fails and none that fails comes before it; none is answered exactly where
 /// none fails.
 pub fn least_pairs()
     ensures { LeastLaw }
+{}
+
+/// Small trees, each taken, or refused for the operation and the code that are said.
+pub fn some_trees()
+    ensures { RuleExamples }
+{}
+
+/// What is read off an operation and a region is what they have.
+pub fn views_agree()
+    ensures { ViewsLaw }
 {}

@@ -7,5 +7,5 @@
 mod laws;
 mod mode;
 
-pub use laws::{least_pairs};
+pub use laws::{least_pairs, some_trees, views_agree};
 pub use mode::Mode;
