@@ -1,2 +1,4 @@
+pub mod Meanings
+pub mod OwnPlaces
 pub mod TextVariants
 pub mod Variants

@@ -1,5 +1,6 @@
 pub mod Names
 pub mod Written
+pub mod WrittenLaws
 pub mod Asked
 pub mod Roles
 pub mod Applying
