@@ -1,0 +1,2 @@
+pub mod TextVariants
+pub mod Variants

@@ -1,0 +1,5 @@
+pub mod Texts
+pub mod Types
+pub mod Relations
+pub mod RelationLaws
+pub mod Examples
