@@ -11,8 +11,8 @@ use Rattle.av_affine.specs.declared.expression.Expr.{Expr}
 use Rattle.av_affine.specs.declared.expression.Expr.TheVariants.{Param, Const, Neg, Add, Sub, Mul, Mod, Floor, Ceil}
 use Rattle.av_affine.specs.declared.expression.Expr.TheBlock.{shape-the_row-Expr-0, hidden-the_row-Expr-0}
 use denote.Hole.Carrier.{hidden}
-use Rattle.av_forms.specs.Normalised.{parameters}
-use Rattle.av_forms.proofs.NormalisedVariants.{occurs, renames}
+use Rattle.av_affine_laws.specs.Normalised.{parameters}
+use Rattle.av_affine_laws.proofs.NormalisedVariants.{occurs, renames}
 use Rattle.av_maps.specs.Asked.{has_own, is_own}
 
 pub ruleset uses = (occurs, renames)

@@ -2,7 +2,7 @@
 use Rattle.std.specs.Prelude.{ℕ, List, map}
 use Rattle.av_affine.specs.declared.expression.AffMap.{AffMap}
 use Rattle.av_affine.specs.declared.expression.Expr.{Expr}
-use Rattle.av_forms.specs.Normalised.{Applied, Operands, normalised, parameter_for, renamed}
+use Rattle.av_affine_laws.specs.Normalised.{Applied, Operands, normalised, parameter_for, renamed}
 use Rattle.av_ir.specs.declared.module.ValueId.{ValueId}
 use Rattle.av_maps.specs.declared.normal.MapUse.{MapUse}
 use Rattle.av_maps.specs.declared.normal.Used.{Used}

@@ -8,7 +8,7 @@ use Rattle.av_affine.specs.declared.expression.Leaf.{Leaf}
 use Rattle.av_affine.specs.declared.expression.Leaf.TheVariants.{Dim, Sym}
 use Rattle.av_affine.specs.Finding.{bound_found}
 use Rattle.av_affine.specs.Limits.{node_count}
-use Rattle.av_forms.specs.Normalised.{parameters}
+use Rattle.av_affine_laws.specs.Normalised.{parameters}
 use Rattle.av_tree.specs.declared.written.MapText.{MapText}
 use Rattle.av_tree.specs.declared.written.SetText.{SetText}
 use Rattle.av_maps.specs.Names.{parameters_differ}

@@ -2,7 +2,7 @@
 //! of each kind are numbered by first occurrence.
 
 ghost use Rattle.std.specs.Prelude.{◌≡◌, ◌==◌, ◌++◌, length, map as map_list, position, slice_index, IfOk, OnOk};
-ghost use Rattle.av_forms.specs.Normalised.{normalised, occur, occurring, over_values, parameter_for, place_among, renamed, with_parameter, with_value};
+ghost use Rattle.av_affine_laws.specs.Normalised.{normalised, occur, occurring, over_values, parameter_for, place_among, renamed, with_parameter, with_value};
 ghost use Rattle.av_maps.specs.Applying.{kinds, normal_use, numbers, renamed_by, use_of, used_kinds, value_of};
 
 use av_affine::{AffMap, Expr, Held, Leaf, No, Seq};

@@ -213,7 +213,12 @@ fn fits_behind(shape: &Shape, other: &Shape) -> bool
 {
     if shape.rank() <= other.rank() {
         let behind = &other.sizes()[other.rank() - shape.rank()..];
-        stretch(shape.sizes(), shape.is_scalable(), behind, other.is_scalable())
+        stretch(
+            shape.sizes(),
+            shape.is_scalable(),
+            behind,
+            other.is_scalable(),
+        )
     } else {
         false
     }

@@ -2,7 +2,7 @@ use Rattle.std.proofs.Common.{refl}
 use Rattle.av_affine.specs.Finding.{bound_found}
 use Rattle.av_affine.specs.Limits.{has_parameter, node_count}
 use Rattle.av_affine.specs.Values.{value_of}
-use Rattle.av_forms.specs.Normalised.{occur, parameters, renamed}
+use Rattle.av_affine_laws.specs.Normalised.{occur, parameters, renamed}
 use Rattle.av_tree.specs.declared.written.ExprText.TheBlock.{shape-the_row-ExprText-0, hidden-the_row-ExprText-0}
 use Rattle.av_affine.specs.declared.expression.Expr.TheBlock.{shape-the_row-Expr-0, hidden-the_row-Expr-0}
 use denote.Hole.Carrier.{hidden}

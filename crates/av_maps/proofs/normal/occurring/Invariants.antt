@@ -1,6 +1,6 @@
 -- what is left to go through gives the rest
 use Rattle.std.proofs.Common.{◌≡◌, drop}
-use Rattle.av_forms.specs.Normalised.{occur_in, occurring}
+use Rattle.av_affine_laws.specs.Normalised.{occur_in, occurring}
 use Rattle.av_maps.specs.Applying.{kinds, used_kinds}
 use Rattle.av_maps.proofs.normal.occurring.Given as goal
 
