@@ -26,6 +26,6 @@ found-within least most (entry ∷ rest) word h k =
     (λ e. rw (ap length ((bytes_eq-Decides word entry.0).0 e)) at (between least most (length word) h k)) word entry (of_lengths least most rest) rest refl
     (found-within least most rest word h k)
 
-pub none-longer : (word : List ℕ) → 19 ≤ length word → None ≡ found_in keywords word
+pub none-longer : (word : List ℕ) → 14 ≤ length word → None ≡ found_in keywords word
 unfolding keywords
-none-longer word h = found-within 19 (length word) keywords word h (omega arith)
+none-longer word h = found-within 14 (length word) keywords word h (omega arith)

@@ -86,6 +86,11 @@ abbrev pub form_symbols : List Part → List Symbol
 form_symbols [] = []
 form_symbols (p ∷ ps) = lead_symbols p.0 ++ (item_symbols p.1 ++ form_symbols ps)
 
+-- the form isn't made of parts
+abbrev pub is_by_hand : List Part → Bool
+is_by_hand ((_, item.ByHand) ∷ ps) = true
+is_by_hand _ = false
+
 -- ---- brackets
 -- each text of the item has a bracket
 abbrev pub needs_bracket : Item → Bool
