@@ -1,9 +1,8 @@
 -- The parts of forms of operations, each with what stands before it and what it takes of the operands that are left.
 -- A part that the operation lacks is left out; what stands before it stays.
-use Rattle.std.specs.Prelude.{ℕ, suc, ◌+◌, ◌-◌, ℤ, pos, negsuc, Bool, true, false, List, [], ◌∷◌, ◌++◌, map, length, take, drop, Option, Some, None, if◌then◌else◌, slice_get, codes}
+use Rattle.std.specs.Prelude.{ℕ, suc, ◌+◌, ◌-◌, ℤ, pos, negsuc, Bool, true, false, List, [], ◌∷◌, ◌++◌, map, length, take, drop, Option, Some, None, if◌then◌else◌, get_or, codes}
 use Rattle.av_lex.specs.declared.token.Kind.TheVariants as kinds
 use Rattle.av_lex.specs.declared.token.Sign.TheVariants.{OpenAngle, CloseAngle, Colon, Equal, Arrow}
-use Rattle.av_tree.specs.declared.written.MapText.{MapText}
 use Rattle.av_tree.specs.declared.written.TypeText.{TypeText, TypeText-F, out-TypeText}
 use Rattle.av_tree.specs.declared.written.TypeText.TheOpen as types
 use Rattle.av_tree.specs.declared.attribute.Attr.{Attr, Attr-F, out-Attr}
@@ -89,14 +88,21 @@ applied None operands = []
 applied (Some a) operands = applied_in operands (out-Attr a)
 
 -- ---- words of properties
-unfoldable pub word_if_any : Option (List ℕ) → List Piece
-word_if_any None = []
-word_if_any (Some word) = plain word
+unfoldable pub word_if_any : List ℕ → List Piece
+word_if_any [] = []
+word_if_any (c ∷ cs) = plain (c ∷ cs)
 
--- the word of a comparison
-abbrev pub predicate_at : ℤ → Option (List ℕ)
-predicate_at (pos n) = slice_get predicates n
-predicate_at (negsuc n) = None
+-- the word at the place of a number, or none
+abbrev pub place_of : ℤ → Option ℕ
+place_of (pos n) = Some n
+place_of (negsuc n) = None
+
+abbrev pub word_at : List (List ℕ) → Option ℕ → List ℕ
+word_at words None = []
+word_at words (Some place) = get_or words place []
+
+abbrev pub predicate_at : ℤ → List ℕ
+predicate_at z = word_at predicates (place_of z)
 
 abbrev pub word_in : Attr-F Attr Named → List Piece
 word_in (attrs.Number z ty) = word_if_any (predicate_at z)
@@ -151,13 +157,13 @@ unfoldable pub size_of : ℕ → Option Attr → ℕ
 size_of counted None = 0
 size_of counted (Some a) = size_in counted (out-Attr a)
 
--- the number at a place of an array, or 0
-abbrev pub natural : Option ℤ → ℕ
-natural (Some (pos n)) = n
-natural other = 0
+abbrev pub natural : ℤ → ℕ
+natural (pos n) = n
+natural (negsuc n) = 0
 
+-- the number at a place of an array, or 0
 abbrev pub counted_in : ℕ → Attr-F Attr Named → ℕ
-counted_in place (attrs.Array elem numbers) = natural (slice_get numbers place)
+counted_in place (attrs.Array elem numbers) = natural (get_or numbers place (pos 0))
 counted_in place other = 0
 
 unfoldable pub counted : ℕ → Option Attr → ℕ
@@ -177,10 +183,13 @@ bound_size h lower =
     size_of (counted (bound_place lower) (property h.properties (codes "operandSegmentSizes"))) (property h.properties (bound_name lower))
 
 -- `max #map(%0)`: an alias may have several results
+abbrev pub alias_bound : Bool → List ℕ → List (List ℕ) → List Piece
+alias_bound lower name operands =
+    plain (if lower then codes "max" else codes "min") ++ space ++ token kinds.HashId name ++ values_in_round operands
+
 abbrev pub bound_in : Bool → List (List ℕ) → Attr-F Attr Named → List Piece
 bound_in lower operands (attrs.Map m) = bound lower m operands
-bound_in lower operands (attrs.AliasUse name) =
-    plain (if lower then codes "max" else codes "min") ++ space ++ token kinds.HashId name ++ values_in_round operands
+bound_in lower operands (attrs.AliasUse name) = alias_bound lower name operands
 bound_in lower operands other = []
 
 unfoldable pub bound_of : Bool → Option Attr → List (List ℕ) → List Piece

@@ -2,7 +2,7 @@
 ghost use Rattle.std.specs.Prelude.{◌≡◌, ◌++◌, Some, option_copied, IfOk};
 ghost use Rattle.av_printer.specs.Pieces.{spelt};
 ghost use Rattle.av_printer.specs.Operations.{step_of, variable, step_behind, carried_pair, carried_in_round, carried_behind};
-ghost use Rattle.av_printer.specs.Parts.{bound_of};
+ghost use Rattle.av_printer.specs.Parts.{alias_bound, bound_of};
 
 use crate::generic::{print_known_in_round, print_values_in_round};
 use crate::slices::behind;
@@ -24,7 +24,7 @@ pub(crate) fn print_variable(out: &mut Writer, args: &[BodyArg]) -> Result<(), A
 }
 
 /// A bound, lower or upper.
-#[tactic(auto, using(crate::proofs::Steps::steps, crate::proofs::PartSteps::bound_steps))]
+#[tactic(auto, using(crate::proofs::Steps::steps, crate::proofs::PartSteps::bound_of_steps))]
 pub(crate) fn print_bound_of(
     out: &mut Writer,
     lower: bool,
@@ -41,7 +41,7 @@ pub(crate) fn print_bound_of(
 }
 
 // An alias may have several results.
-#[tactic(auto, using(crate::proofs::Steps::steps, crate::proofs::PartSteps::bound_steps))]
+#[tactic(auto, using(crate::proofs::Steps::steps, crate::proofs::PartSteps::bound_of_steps))]
 fn print_bound_in(
     out: &mut Writer,
     lower: bool,
@@ -52,13 +52,28 @@ fn print_bound_in(
 {
     match attr {
         Attr::Map(map) => print_bound(out, lower, map, operands)?,
-        Attr::AliasUse(name) => {
-            out.push_bytes(if lower { b"max " } else { b"min " })?;
-            out.push_text(name)?;
-            print_values_in_round(out, operands)?;
-        }
+        Attr::AliasUse(name) => print_alias_bound(out, lower, name, operands)?,
         _ => {}
     }
+    Ok(())
+}
+
+#[tactic(auto, using(crate::proofs::Steps::steps))]
+fn print_alias_bound(
+    out: &mut Writer,
+    lower: bool,
+    name: &Text,
+    operands: &[Text],
+) -> Result<(), AllocError>
+    ensures { IfOk result (λ _. out.new ≡ out.old ++ spelt (alias_bound lower name.now operands.now)) }
+{
+    if lower {
+        out.push_bytes(b"max ")?;
+    } else {
+        out.push_bytes(b"min ")?;
+    }
+    out.push_text(name)?;
+    print_values_in_round(out, operands)?;
     Ok(())
 }
 

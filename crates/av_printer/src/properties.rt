@@ -1,8 +1,8 @@
 //! What properties say in forms of their own.
-ghost use Rattle.std.specs.Prelude.{◌≡◌, ◌++◌, map, option_copied, slice_get, Some, IfOk};
+ghost use Rattle.std.specs.Prelude.{◌≡◌, [], ◌++◌, get_or, map, option_copied, Some, IfOk};
 ghost use Rattle.av_printer.specs.Pieces.{spelt};
 ghost use Rattle.av_printer.specs.Operations.{constant_value};
-ghost use Rattle.av_printer.specs.Parts.{applied, predicate_at, word_if_any, word_of, angled, angled_of, flags, flags_of, numbers};
+ghost use Rattle.av_printer.specs.Parts.{applied, place_of, predicate_at, word_of, angled, angled_of, flags, flags_of, numbers};
 
 use crate::attributes::{print_attribute, print_integers};
 use crate::expressions::print_texts;
@@ -70,21 +70,27 @@ fn word_in(attr: &Attr) -> &'static [u8]
 
 // The word of the predicate of this number, or nothing.
 fn predicate_at(value: i128) -> &'static [u8]
-    ensures { result.now ≡ spelt (word_if_any (predicate_at value)) }
+    ensures { result.now ≡ predicate_at value }
 {
-    if value < 0 || value >= PREDICATES.len() as i128 {
-        b""
-    } else {
-        word_at(PREDICATES, value as usize)
+    match place_of(value) {
+        Some(place) => word_at(PREDICATES, place),
+        None => b"",
     }
 }
 
-fn word_at(words: &[&'static str], place: usize) -> &'static [u8]
-    ensures { result.now ≡ spelt (word_if_any (slice_get (map (λ word. word.now) words.now) place)) }
+fn place_of(value: i128) -> Option<u128>
+    ensures { result ≡ place_of value }
 {
-    match words.get(place) {
-        Some(word) => word.as_bytes(),
-        None => b"",
+    if value < 0 { None } else { Some(value as u128) }
+}
+
+fn word_at(words: &[&'static str], place: u128) -> &'static [u8]
+    ensures { result.now ≡ get_or (map (λ word. word.now) words.now) place [] }
+{
+    if place < words.len() as u128 {
+        words[place as usize].as_bytes()
+    } else {
+        b""
     }
 }
 

@@ -1,8 +1,8 @@
 //! Which parts of a form take which operands, and which stand around its regions.
-ghost use Rattle.std.specs.Prelude.{◌≡◌, ◌-◌, take, drop, length, if◌then◌else◌, Some, option_copied};
+ghost use Rattle.std.specs.Prelude.{◌≡◌, ◌-◌, take, drop, length, if◌then◌else◌, Some, get_or, pos, option_copied};
 ghost use Rattle.av_dialects.specs.Types.{needs, takes, takes_more};
 ghost use Rattle.av_printer.specs.Operations.{head_of};
-ghost use Rattle.av_printer.specs.Parts.{is_region, before_regions, behind_regions, share, bound_size, size_of, counted, natural};
+ghost use Rattle.av_printer.specs.Parts.{is_region, before_regions, behind_regions, share, bound_name, bound_place, bound_size, size_of, counted, natural};
 
 use crate::entries::property;
 use av_affine::Text;
@@ -133,13 +133,29 @@ fn bound_size(node: &Node, lower: bool) -> u128
 {
     let properties = node.properties.as_slice();
     let counts = property(properties, b"operandSegmentSizes");
+    size_of(
+        property(properties, bound_name(lower)),
+        counted(counts, bound_place(lower)),
+    )
+}
+
+fn bound_name(lower: bool) -> &'static [u8]
+    ensures { result.now ≡ bound_name lower }
+{
     if lower {
-        size_of(property(properties, b"lowerBoundMap"), counted(counts, 0))
+        b"lowerBoundMap"
     } else {
-        size_of(property(properties, b"upperBoundMap"), counted(counts, 1))
+        b"upperBoundMap"
     }
 }
 
+fn bound_place(lower: bool) -> usize
+    ensures { result ≡ bound_place lower }
+{
+    if lower { 0 } else { 1 }
+}
+
+#[tactic(auto, using(crate::proofs::PartSteps::size_steps))]
 fn size_of(attr: Option<&Attr>, counted: u128) -> u128
     ensures { result ≡ size_of counted (option_copied attr.entry) }
 {
@@ -149,6 +165,7 @@ fn size_of(attr: Option<&Attr>, counted: u128) -> u128
     }
 }
 
+#[tactic(auto, using(crate::proofs::PartSteps::size_steps))]
 fn size_in(attr: &Attr, counted: u128) -> u128
     ensures { result ≡ size_of counted (Some attr.now) }
 {
@@ -159,6 +176,7 @@ fn size_in(attr: &Attr, counted: u128) -> u128
     }
 }
 
+#[tactic(auto, using(crate::proofs::PartSteps::size_steps))]
 fn counted(attr: Option<&Attr>, place: usize) -> u128
     ensures { result ≡ counted place (option_copied attr.entry) }
 {
@@ -168,26 +186,28 @@ fn counted(attr: Option<&Attr>, place: usize) -> u128
     }
 }
 
+#[tactic(auto, using(crate::proofs::PartSteps::size_steps))]
 fn counted_in(attr: &Attr, place: usize) -> u128
     ensures { result ≡ counted place (Some attr.now) }
 {
     match attr {
-        Attr::Array { elem: _, numbers } => natural(numbers.as_slice().get(place)),
+        Attr::Array { elem: _, numbers } => number_at(numbers.as_slice(), place),
         _ => 0,
     }
 }
 
-fn natural(number: Option<&i128>) -> u128
-    ensures { result ≡ natural (option_copied number.entry) }
+fn number_at(numbers: &[i128], place: usize) -> u128
+    ensures { result ≡ natural (get_or numbers.now place (pos 0)) }
 {
-    match number {
-        Some(number) => {
-            if *number < 0 {
-                0
-            } else {
-                *number as u128
-            }
-        }
-        None => 0,
+    if place < numbers.len() {
+        natural(numbers[place])
+    } else {
+        0
     }
+}
+
+fn natural(number: i128) -> u128
+    ensures { result ≡ natural number }
+{
+    if number < 0 { 0 } else { number as u128 }
 }

@@ -6,7 +6,7 @@ use Rattle.av_printer.specs.Operations.{values_pieces}
 use Rattle.av_printer.proofs.Steps.{then, then_text, from_text, spelt-sign}
 use Rattle.av_printer.proofs.ExpressionSteps.{spelt-value}
 use Rattle.av_printer.proofs.PartSteps.{element-some}
-use Rattle.av_printer.proofs.parts.print_element.Goals as goal
+use Rattle.av_printer.proofs.operands.print_element.Goals as goal
 
 pub returns-in_ok-push_bytes-in-len1-up-2 : goal.returns-in_ok-push_bytes-in-len1-up-2
 returns-in_ok-push_bytes-in-len1-up-2 c =

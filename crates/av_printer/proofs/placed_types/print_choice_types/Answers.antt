@@ -1,10 +1,10 @@
 use Rattle.std.proofs.Common.{◌++◌, List, Option, sym, ap, ◌∙◌}
 use Rattle.av_tree.specs.declared.written.TypeText.{TypeText}
 use Rattle.av_printer.specs.Pieces.{Piece, spelt}
-use Rattle.av_printer.specs.Patterns.{condition_type, first_known}
+use Rattle.av_printer.specs.Parts.{condition_type, first_known}
 use Rattle.av_printer.proofs.Steps.{then}
 use Rattle.av_printer.proofs.PartSteps.{selected-some}
-use Rattle.av_printer.proofs.parts.print_selected_types.Goals as goal
+use Rattle.av_printer.proofs.placed_types.print_choice_types.Goals as goal
 
 pub returns-in_ok-print_first_known-in-len1-up : goal.returns-in_ok-print_first_known-in-len1-up
 returns-in_ok-print_first_known-in-len1-up c =
