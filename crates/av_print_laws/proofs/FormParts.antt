@@ -1,6 +1,6 @@
 -- The parts of forms of operations that were read are spaced, each behind what stands before it.
 use Rattle.std.proofs.Common.{◌≡◌, ℕ, zero, suc, ◌-◌, ◌&&◌, ℤ, pos, negsuc, Bool, true, false, List, [], ◌∷◌, ◌++◌, if◌then◌else◌, length, take, drop, map, Option, Some, None, refl, codes}
-use Rattle.std.specs.Prelude.{slice_get, get_or}
+use Rattle.std.specs.Prelude.{get_or}
 use Rattle.std.specs.List.{All, list_all}
 use Rattle.std.proofs.lemmas.Bool.{false≢true}
 use Rattle.std.proofs.lemmas.List.Elements.{All-head, All-tail, All-take, All-drop}
@@ -142,13 +142,18 @@ sound-applied None h values v = sound-none
 sound-applied (Some a) h values v = sound-applied_in values v (out-Attr a) (says a h)
 
 -- ---- words of properties
-abbrev IsWordIf : Option (List ℕ) → Type 0
-IsWordIf None = Unit {0}
-IsWordIf (Some word) = IsWord kinds.Word word
+-- a text is empty or a word
+abbrev IsWordIf : List ℕ → Type 0
+IsWordIf [] = Unit {0}
+IsWordIf (c ∷ cs) = IsWord kinds.Word (c ∷ cs)
 
-listed : (words : List (List ℕ)) → list_all spells_word words ≡ true → (n : ℕ) → IsWordIf (slice_get words n)
+word-if : (word : List ℕ) → IsWord kinds.Word word → IsWordIf word
+word-if [] w = tt
+word-if (c ∷ cs) w = w
+
+listed : (words : List (List ℕ)) → list_all spells_word words ≡ true → (n : ℕ) → IsWordIf (get_or words n [])
 listed [] h n = tt
-listed (word ∷ words) h zero = is_word word (both_true (spells_word word) (list_all spells_word words) h).0
+listed (word ∷ words) h zero = word-if word (is_word word (both_true (spells_word word) (list_all spells_word words) h).0)
 listed (word ∷ words) h (suc n) = listed words (both_true (spells_word word) (list_all spells_word words) h).1 n
 
 predicate_word : (z : ℤ) → IsWordIf (p.predicate_at z)
@@ -156,10 +161,10 @@ unfolding predicates in_class
 predicate_word (pos n) = listed predicates refl n
 predicate_word (negsuc n) = tt
 
-sound-word_if_any : (word : Option (List ℕ)) → IsWordIf word → Sound (p.word_if_any word)
+sound-word_if_any : (word : List ℕ) → IsWordIf word → Sound (p.word_if_any word)
 unfolding p.word_if_any
-sound-word_if_any None w = sound-none
-sound-word_if_any (Some word) w = sound-word word w
+sound-word_if_any [] w = sound-none
+sound-word_if_any (c ∷ cs) w = sound-word (c ∷ cs) w
 
 sound-word_in : (x : Attr-F Attr Named) → Sound (p.word_in x)
 sound-word_in (open_attr.Number z ty) = sound-word_if_any (p.predicate_at z) (predicate_word z)

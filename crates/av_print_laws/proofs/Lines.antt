@@ -11,7 +11,7 @@ use Rattle.av_printer.specs.Pieces.{Piece, sign, plain, spaced}
 use Rattle.av_printer.specs.Operations as o
 use Rattle.av_printer.specs.OwnForms as f
 use Rattle.av_dialects.specs.Rows.{form_of}
-use Rattle.av_printer.specs.Parts.{parts_pieces, before_regions, behind_regions, behind_seen, first_word, form_line, form_end}
+use Rattle.av_printer.specs.Parts.{parts_pieces, before_regions, behind_regions, first_word, form_line, form_end}
 use Rattle.av_print_laws.specs.Spacing.{lengthens, IsWord}
 use Rattle.av_print_laws.specs.ReadExpressions.{IsValue}
 use Rattle.av_print_laws.specs.ReadNodes.{IsReadTypeIf, HasSymbol}

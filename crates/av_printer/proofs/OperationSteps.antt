@@ -16,7 +16,7 @@ use Rattle.av_tree.specs.declared.node.Body.{Body, out-Body}
 use Rattle.av_tree.specs.declared.written.MapText.{MapText}
 use Rattle.av_tree.specs.declared.attribute.Named.{Named, out-Named}
 use Rattle.av_tree.specs.declared.node.BodyArg.{BodyArg}
-use Rattle.av_printer.specs.Pieces.{spelt, space, token, sign, plain, comma, comma_after, spaced, commas}
+use Rattle.av_printer.specs.Pieces.{spelt, space, token, sign, plain, comma_after, spaced, commas}
 use Rattle.av_printer.specs.Types.{type_pieces, one_or_several}
 use Rattle.av_printer.specs.Expressions.{value, same}
 use Rattle.av_printer.specs.Dictionaries.{dictionary}

@@ -1,7 +1,7 @@
 -- The spelling of parts of forms.
 use Rattle.std.proofs.Common.{◌≡◌, ℕ, zero, suc, ◌+◌, ◌-◌, ◌<◌, ◌≤◌, ℤ, pos, true, false, cond, Bool, List, [], ◌∷◌, ◌++◌, length, get_or, take, drop, map, append_assoc, Option, Some, None, refl, sym, ap, ◌∙◌, arith}
 use Rattle.av_lex.specs.declared.token.Kind.TheVariants as kinds
-use Rattle.av_lex.specs.declared.token.Sign.TheVariants.{OpenAngle, CloseAngle, Arrow}
+use Rattle.av_lex.specs.declared.token.Sign.TheVariants.{Arrow}
 use Rattle.std.specs.Prelude.{if◌then◌else◌, codes}
 use Rattle.av_tree.specs.declared.written.SizeText.{SizeText}
 use Rattle.av_tree.specs.declared.written.DimText.{DimText}
@@ -26,7 +26,7 @@ use Rattle.av_printer.specs.Pieces.{spelt, space, token, sign, plain, comma, spa
 use Rattle.av_printer.specs.Types.{type_pieces}
 use Rattle.av_printer.specs.Expressions.{number, value, map_use, set_use, bound}
 use Rattle.av_printer.specs.Operations.{Head, values_pieces, values_in_round, known_type, known_results}
-use Rattle.av_printer.specs.Parts.{element, first_known, is_vector, condition_type, selected_types, written_results, applied_in, applied, predicate_at, word_if_any, word_in, word_of, angled, angled_in, angled_of, flags, flags_in, flags_of, numbers_in, numbers, natural, counted_in, counted, size_in, size_of, alias_bound, bound_in, bound_of, share, is_region, before_regions, behind_seen, behind_regions, part_pieces, parts_pieces}
+use Rattle.av_printer.specs.Parts.{element, first_known, is_vector, condition_type, selected_types, written_results, applied_in, applied, predicate_at, word_if_any, word_in, word_of, angled, angled_in, angled_of, flags, flags_in, flags_of, numbers_in, numbers, natural, counted_in, counted, size_in, size_of, alias_bound, bound_in, bound_of, share, is_region, before_regions, behind_seen, part_pieces, parts_pieces}
 use Rattle.av_printer.proofs.Steps.{spelt-append, spelt-token, spelt-none}
 use Rattle.av_printer.proofs.ExpressionSteps.{spelt-value}
 

@@ -1,5 +1,5 @@
 -- The spelling of operations beside their regions: in a form of their own, and in the form that all have in common.
-use Rattle.std.specs.Prelude.{ℕ, ℤ, pos, ◌+◌, Bool, true, false, List, [], ◌∷◌, ◌++◌, map, length, take, drop, Option, Some, None, if◌then◌else◌, codes}
+use Rattle.std.specs.Prelude.{ℕ, ℤ, pos, List, [], ◌∷◌, ◌++◌, map, drop, Option, Some, None, if◌then◌else◌, codes}
 use Rattle.std.specs.Ordering.{int_eq}
 use Rattle.av_lex.specs.declared.token.Kind.TheVariants as kinds
 use Rattle.av_lex.specs.declared.token.Sign.TheVariants.{OpenAngle, CloseAngle, OpenCurly, CloseCurly, Colon, Equal, Arrow, Question}
@@ -12,7 +12,7 @@ use Rattle.av_tree.specs.declared.attribute.Named.{Named, out-Named}
 use Rattle.av_tree.specs.declared.node.BodyArg.{BodyArg}
 use Rattle.av_tree.specs.declared.node.Node.{Node, out-Node}
 use Rattle.av_tree.specs.declared.node.Body.{Body, out-Body}
-use Rattle.av_printer.specs.Pieces.{Piece, space, token, sign, plain, comma, colon, spaced, commas, in_round}
+use Rattle.av_printer.specs.Pieces.{Piece, space, token, sign, plain, colon, spaced, commas, in_round}
 use Rattle.av_printer.specs.Types.{type_pieces, one_or_several}
 use Rattle.av_printer.specs.Expressions.{number, value, result_name, same, subscripts}
 use Rattle.av_printer.specs.Attributes.{attribute}

@@ -3,7 +3,6 @@
 use Rattle.std.specs.Prelude.{ℕ, suc, ◌+◌, ◌-◌, ℤ, pos, negsuc, Bool, true, false, List, [], ◌∷◌, ◌++◌, map, length, take, drop, Option, Some, None, if◌then◌else◌, get_or, codes}
 use Rattle.av_lex.specs.declared.token.Kind.TheVariants as kinds
 use Rattle.av_lex.specs.declared.token.Sign.TheVariants.{OpenAngle, CloseAngle, Colon, Equal, Arrow}
-use Rattle.av_tree.specs.declared.written.MapText.{MapText}
 use Rattle.av_tree.specs.declared.written.TypeText.{TypeText, TypeText-F, out-TypeText}
 use Rattle.av_tree.specs.declared.written.TypeText.TheOpen as types
 use Rattle.av_tree.specs.declared.attribute.Attr.{Attr, Attr-F, out-Attr}

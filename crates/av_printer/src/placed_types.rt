@@ -65,7 +65,10 @@ fn print_first_known(out: &mut Writer, types: &[Option<TypeText>]) -> Result<(),
 
 #[tactic(auto, using(crate::proofs::Steps::steps, crate::proofs::PartSteps::part_steps))]
 /// The types of a choice.
-pub(crate) fn print_choice_types(out: &mut Writer, types: &[Option<TypeText>]) -> Result<(), AllocError>
+pub(crate) fn print_choice_types(
+    out: &mut Writer,
+    types: &[Option<TypeText>],
+) -> Result<(), AllocError>
     ensures { IfOk result (λ _. out.new ≡ out.old ++ spelt (selected_types types.now)) }
 {
     match types {
@@ -109,7 +112,10 @@ fn is_vector(ty: &TypeText) -> bool
 
 // The types of results behind an arrow; nothing where there is none.
 #[tactic(auto, using(crate::proofs::Steps::steps, crate::proofs::PartSteps::part_steps, crate::proofs::Steps::signs_between))]
-pub(crate) fn print_written_results(out: &mut Writer, types: &[Option<TypeText>]) -> Result<(), AllocError>
+pub(crate) fn print_written_results(
+    out: &mut Writer,
+    types: &[Option<TypeText>],
+) -> Result<(), AllocError>
     ensures { IfOk result (λ _. out.new ≡ out.old ++ spelt (written_results types.now)) }
 {
     if !types.is_empty() {

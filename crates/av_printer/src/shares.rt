@@ -142,7 +142,11 @@ fn bound_size(node: &Node, lower: bool) -> u128
 fn bound_name(lower: bool) -> &'static [u8]
     ensures { result.now ≡ bound_name lower }
 {
-    if lower { b"lowerBoundMap" } else { b"upperBoundMap" }
+    if lower {
+        b"lowerBoundMap"
+    } else {
+        b"upperBoundMap"
+    }
 }
 
 fn bound_place(lower: bool) -> usize

@@ -1,4 +1,4 @@
-use Rattle.std.proofs.Common.{◌≡◌, ◌++◌, map, take, drop}
+use Rattle.std.proofs.Common.{◌≡◌, ◌++◌, map, drop}
 use Rattle.av_printer.specs.Pieces.{spelt, behind}
 use Rattle.av_printer.specs.Expressions.{value}
 use Rattle.av_printer.proofs.operands.print_more.Given as goal

@@ -18,13 +18,13 @@ loop-i-preserved c =
     let i = c.loop-i.i in
     let from = λ (b : Bool) (k : ℕ). behind_seen b (drop k parts) in
     elim c.if-is_region.branch [
-      then-is_region w ↦
-        c.loop-i.invariant ∙ behind-region c.loop-i.seen parts _ i c.loop-i-test.true w.if-is_region.ensures
-        ∙ ap (from true) (sym (one_more i)) ∙ ap (λ b. from b (i + 1)) (sym w.seen-is)
-    | else-is_region+else-seen w ↦
-        c.loop-i.invariant ∙ behind-other c.loop-i.seen parts _ i c.loop-i-test.true w.if-is_region.ensures
-        ∙ ap (λ (b : Bool). cond b (drop i parts) (from false (suc i))) w.if-seen.false
-        ∙ ap (from false) (sym (one_more i)) ∙ ap (λ b. from b (i + 1)) (sym (w.seen-is ∙ w.if-seen.false))
+      | then-is_region w ↦
+          c.loop-i.invariant ∙ behind-region c.loop-i.seen parts _ i c.loop-i-test.true w.if-is_region.ensures
+          ∙ ap (from true) (sym (one_more i)) ∙ ap (λ b. from b (i + 1)) (sym w.seen-is)
+      | else-is_region+else-seen w ↦
+          c.loop-i.invariant ∙ behind-other c.loop-i.seen parts _ i c.loop-i-test.true w.if-is_region.ensures
+          ∙ ap (λ (b : Bool). cond b (drop i parts) (from false (suc i))) w.if-seen.false
+          ∙ ap (from false) (sym (one_more i)) ∙ ap (λ b. from b (i + 1)) (sym (w.seen-is ∙ w.if-seen.false))
     ]
 
 pub returns : goal.returns

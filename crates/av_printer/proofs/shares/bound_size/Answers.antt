@@ -1,10 +1,9 @@
-use Rattle.std.proofs.Common.{ℕ, List, Option, ap, ◌∙◌}
+use Rattle.std.proofs.Common.{ℕ, List, ap, ◌∙◌}
 use Rattle.std.specs.Prelude.{codes, option_copied}
-use Rattle.av_tree.specs.declared.attribute.Attr.{Attr}
 use Rattle.av_tree.specs.declared.attribute.Named.{Named}
 use Rattle.av_tree.specs.declared.node.Node.{out-Node}
 use Rattle.av_printer.specs.Operations.{property}
-use Rattle.av_printer.specs.Parts.{bound_name, bound_place, counted, size_of}
+use Rattle.av_printer.specs.Parts.{bound_place, counted, size_of}
 use Rattle.av_printer.proofs.shares.bound_size.Goals as goal
 
 pub returns : goal.returns
