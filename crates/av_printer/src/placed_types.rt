@@ -27,7 +27,7 @@ fn first_slot(slots: Slots) -> Slot
 {
     match slots {
         Slots::One(slot) => slot,
-        Slots::Two(slot, _) => slot,
+        Slots::Two(_, slot) => slot,
         Slots::Three(slot, _, _) => slot,
     }
 }
