@@ -1,8 +1,8 @@
 -- The first thing that fails a question, with the first question that it fails, is found.
-use Rattle.std.proofs.Common.{◌≡◌, ℕ, zero, suc, ◌<◌, ◌≤◌, ◌⊎◌, inl, inr, Bool, true, false, if◌then◌else◌, List, [], ◌∷◌, Option, None, Some, MatchOption, option_map, arith, refl, ap, sym, ◌∙◌}
+use Rattle.std.proofs.Common.{◌≡◌, ℕ, zero, suc, ◌≤◌, inl, inr, Bool, true, false, if◌then◌else◌, List, [], ◌∷◌, Option, None, Some, MatchOption, option_map, arith, refl, ap}
 use Rattle.av_tree.specs.declared.node.Tree.{Tree}
 use Rattle.av_rules.specs.declared.mode.Mode.{Mode}
-use Rattle.av_rules.specs.Fails.{Code, Fails, IsFirst, LeastLaw, all_codes, breaks, failing}
+use Rattle.av_rules.specs.Fails.{Fails, IsFirst, LeastLaw, all_codes, breaks, failing}
 use Rattle.av_rules.specs.Least.{IsLeast, IsNotAfter, Places, after_one, fails_at, first_place, found_first, least_places, passes_at}
 use Rattle.av_rules.specs.Sites.{sites}
 

@@ -1,3 +1,4 @@
 pub mod Computed
+pub mod ComputedRows
 pub mod Least
 pub mod Read

@@ -3,7 +3,7 @@ use Rattle.std.proofs.Common.{◌≡◌, ◌∙◌, ◌∷◌, refl, ap}
 use Rattle.av_tree.specs.declared.node.Node.{Node, Row_of-Body, end_of-Body, more_of-Body, items-the_row-Body, items_hidden-the_row-Body-1, is-Node', out-Node}
 use Rattle.av_tree.specs.declared.node.Body.{Body, Row_of-Node, end_of-Node, more_of-Node, items-the_row-Node, items_hidden-the_row-Node-0, is-Body', out-Body}
 use Rattle.av_tree.specs.declared.node.Body.TheBlock.{hidden-the_row-Body-1, hidden-the_row-Node-0}
-use Rattle.av_rules.specs.Views.{AreFields, AreInside, Fields, Inside, ViewsLaw, bodies_in, fields, inside, nodes_in}
+use Rattle.av_rules.specs.Views.{AreFields, AreInside, ViewsLaw, bodies_in, fields, inside, nodes_in}
 
 bodies-are : {m : _} (row : Row_of-Body m) → bodies_in row ≡ items-the_row-Body m row
 unfolding bodies_in

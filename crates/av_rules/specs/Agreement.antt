@@ -1,5 +1,5 @@
 -- Whether the types of an operation agree with each other, with what is written, with its regions and with its holder.
-use Rattle.std.specs.Prelude.{ℕ, ◌+◌, ◌-◌, ◌==◌, nat_lt, nat_le, Bool, true, false, not, ◌&&◌, ◌||◌, if◌then◌else◌, List, [], ◌∷◌, ◌++◌, length, map, flat_map, take, drop, option_map, Option, Some, None, codes}
+use Rattle.std.specs.Prelude.{ℕ, ◌+◌, ◌-◌, ◌==◌, nat_lt, Bool, true, false, not, ◌&&◌, ◌||◌, List, [], ◌∷◌, ◌++◌, length, map, flat_map, take, drop, option_map, Option, Some, None, codes}
 use Rattle.std.specs.List.{list_all}
 use Rattle.std.specs.Option.{option_and_then, option_map_or, option_to_list}
 use Rattle.std.specs.Cmp.Lexicographic.{pointwise}
@@ -20,16 +20,14 @@ use Rattle.av_signatures.specs.declared.signature.Role.{Role}
 use Rattle.av_signatures.specs.declared.signature.Role.TheVariants as role
 use Rattle.av_tree.specs.declared.attribute.Attr.{Attr, List', Dictionary', Row_of-Attr, end_of-Attr, more_of-Attr, Row_of-Named, end_of-Named, more_of-Named}
 use Rattle.av_tree.specs.declared.attribute.Attr.TheVariants as value
-use Rattle.av_tree.specs.declared.attribute.Named.{Named}
-use Rattle.av_tree.specs.declared.node.Body.{Body}
 use Rattle.av_tree.specs.declared.node.BodyArg.{BodyArg}
 use Rattle.av_tree.specs.declared.written.TypeText.{TypeText}
 use Rattle.av_types.specs.Texts.{is_type}
-use Rattle.av_types.specs.Relations.{element_of, is_elem, is_index, is_memref, is_plain, is_truth, is_vector, part_of, rank_of, same_elements, same_sizes, same_type, stretches_to, truths_of}
+use Rattle.av_types.specs.Relations.{element_of, is_index, is_memref, is_plain, is_truth, is_vector, rank_of, same_elements, same_sizes, same_type, stretches_to, truths_of}
 use Rattle.av_rules.specs.Counts.{is_in_place}
 use Rattle.av_rules.specs.Entries.{entry_of, function_of, kept, numbers_of}
 use Rattle.av_rules.specs.Places.{Holder, Site, operand_types}
-use Rattle.av_rules.specs.Rows.{Row, is_function}
+use Rattle.av_rules.specs.Rows.{Row}
 use Rattle.av_rules.specs.Typing.{carried_types, index_type, part_at, result_types, spelled, type_at}
 use Rattle.av_rules.specs.Views.{Function, function_in, fields, inside}
 
@@ -90,10 +88,10 @@ is_pair site pair.Broadcasts a b = stretches_to a b
 is_pair site pair.PartOf a b = if_known (same_type a) (part_at (Some b) (numbers_of (codes "static_position") site.node))
 
 -- ---- constants
--- a number is of a scalar type, and a list of elements of a vector type, which is the one that is written for the result
+-- a number and a truth value are of a scalar type, and a list of elements of a vector type, which is the one that is written for the result
 abbrev pub value_agrees : Option Attr → Option Ty → Bool
 value_agrees (Some (value.Number n t)) (Some r) = not (is_vector r) && option_map_or (same_type r) (spelled t) true
-value_agrees (Some (value.Bool b)) (Some r) = not (is_vector r) && is_truth (element_of r)
+value_agrees (Some (value.Bool b)) (Some r) = not (is_vector r)
 value_agrees (Some (value.Dense elements t)) (Some r) = is_vector r && option_map_or (same_type r) (spelled t) true
 value_agrees _ _ = true
 

@@ -1,5 +1,5 @@
 -- Constants that fit their type, and positions that are within their vector.
-use Rattle.std.specs.Prelude.{ℕ, ◌+◌, ◌-◌, ◌^◌, ◌==◌, nat_eq, ℤ, pos, neg_ℤ, int_le, int_lt, Bool, true, false, not, ◌&&◌, ◌||◌, if◌then◌else◌, List, [], ◌∷◌, length, map, flat_map, sum, option_map, Option, Some, None, codes}
+use Rattle.std.specs.Prelude.{ℕ, ◌+◌, ◌-◌, ◌^◌, ◌==◌, nat_eq, ℤ, pos, neg_ℤ, int_le, int_lt, Bool, true, false, not, ◌&&◌, ◌||◌, if◌then◌else◌, List, [], ◌∷◌, length, flat_map, sum, option_map, Option, Some, None, codes}
 use Rattle.std.specs.List.{list_all}
 use Rattle.std.specs.Option.{option_map_or}
 use Rattle.std.specs.Cmp.Lexicographic.{pointwise}
@@ -85,6 +85,7 @@ nest_fits _ nest = true
 
 abbrev pub value_fits : Option Attr → Option Ty → Bool
 value_fits (Some (value.Number n t)) (Some r) = fits (element_of r) n
+value_fits (Some (value.Bool b)) (Some r) = is_truth (element_of r)
 value_fits (Some (value.Dense elements t)) (Some r) = nest_fits r (nest_of elements)
 value_fits _ _ = true
 

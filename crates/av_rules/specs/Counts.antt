@@ -1,5 +1,5 @@
 -- How many operands and results an operation has to have, and which names it may use and define.
-use Rattle.std.specs.Prelude.{ℕ, ◌+◌, ◌==◌, nat_le, Bool, true, false, not, ◌&&◌, ◌||◌, if◌then◌else◌, List, [], ◌∷◌, length, map, slice_get, Option, Some, None, is_some}
+use Rattle.std.specs.Prelude.{ℕ, ◌+◌, ◌==◌, nat_le, Bool, true, false, not, ◌&&◌, ◌||◌, List, length, map, slice_get, Option, Some, None}
 use Rattle.std.specs.List.{list_all, list_any}
 use Rattle.std.specs.Option.{option_and_then, option_flatten, option_map_or}
 use Rattle.av_signatures.specs.declared.signature.Count.{Count}
@@ -10,11 +10,10 @@ use Rattle.av_signatures.specs.declared.signature.Role.{Role}
 use Rattle.av_signatures.specs.declared.signature.Role.TheVariants as role
 use Rattle.av_signatures.specs.declared.signature.Source.{Source}
 use Rattle.av_signatures.specs.declared.signature.Source.TheVariants as source
-use Rattle.av_tree.specs.declared.node.Body.{Body}
 use Rattle.av_tree.specs.declared.written.TypeText.{TypeText, MemRef, Vector}
 use Rattle.av_rules.specs.Names.{count_in, count_named, differ, names_in}
 use Rattle.av_rules.specs.Places.{Holder, Site}
-use Rattle.av_rules.specs.Rows.{Row, ends_with, is_end_of}
+use Rattle.av_rules.specs.Rows.{Row, ends_with}
 use Rattle.av_rules.specs.Scopes.{Scope, is_visible}
 use Rattle.av_rules.specs.Sites.{held_by, outside}
 use Rattle.av_rules.specs.Typing.{carried_count}

@@ -1,5 +1,5 @@
 -- For each code a tree that is refused for it, beside one that is taken.
-use Rattle.std.specs.Prelude.{ℕ, ◌≡◌, ℤ, pos, negsuc, Bool, true, false, List, [], ◌∷◌, Option, Some, None, codes}
+use Rattle.std.specs.Prelude.{ℕ, ◌≡◌, pos, negsuc, false, List, [], ◌∷◌, Some, None, codes}
 use Rattle.av_tree.specs.declared.attribute.Attr.TheVariants as attr
 use Rattle.av_tree.specs.declared.node.Node.{Node}
 use Rattle.av_tree.specs.declared.node.Tree.{Tree}
@@ -7,17 +7,16 @@ use Rattle.av_tree.specs.declared.written.DimText.TheVariants as dim
 use Rattle.av_tree.specs.declared.written.ExprText.TheVariants as expr
 use Rattle.av_tree.specs.declared.written.TypeText.{TypeText}
 use Rattle.av_tree.specs.declared.written.TypeText.TheVariants as type
-use Rattle.av_rules.specs.declared.mode.Mode.{Mode}
 use Rattle.av_rules.specs.declared.mode.Mode.TheVariants as mode
 use Rattle.av_rules.specs.Fails.{least}
-use Rattle.av_rules.specs.Trees.{add, apply, arg, arguments, body, bound, buffer, constant, d0, entry, four, function, i32, i8, index, load, loop, loop_with, map_over, number, operation, region, simple, terminator, tree_of, yield}
+use Rattle.av_rules.specs.Trees.{add, apply, body, buffer, constant, d0, entry, four, function, i32, i8, index, load, loop, loop_with, map_over, number, operation, region, simple, terminator, tree_of, yield}
 
 -- a tree breaks no rule where it is to be run
-abbrev IsTaken : Tree → Type 0
+abbrev pub IsTaken : Tree → Type 0
 IsTaken tree = least tree mode.Run ≡ None
 
 -- the least pair that fails
-abbrev IsRefused : Tree → ℕ → ℕ → Type 0
+abbrev pub IsRefused : Tree → ℕ → ℕ → Type 0
 IsRefused tree k c = least tree mode.Run ≡ Some (record { operation = k; code = c })
 
 -- V1: arith.addf is no operation

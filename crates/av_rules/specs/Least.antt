@@ -1,5 +1,5 @@
 -- The first of some things that fails a question, and the first question that it fails.
-use Rattle.std.specs.Prelude.{ℕ, zero, suc, ◌<◌, ◌≤◌, ◌≡◌, ◌⊎◌, Bool, true, false, if◌then◌else◌, List, [], ◌∷◌, slice_get, Option, Some, None, MatchOption}
+use Rattle.std.specs.Prelude.{ℕ, suc, ◌<◌, ◌≤◌, ◌≡◌, ◌⊎◌, Bool, true, false, if◌then◌else◌, List, [], ◌∷◌, slice_get, Option, Some, None, MatchOption}
 use Rattle.std.specs.Option.{option_map, option_map_or}
 
 -- whether the item at a place passes a test; none does past the end

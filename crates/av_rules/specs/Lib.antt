@@ -16,3 +16,4 @@ pub mod Least
 pub mod Fails
 pub mod Trees
 pub mod Examples
+pub mod RowExamples

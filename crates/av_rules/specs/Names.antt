@@ -1,6 +1,6 @@
 -- The names before `=`: `%r` names one result, and `%r:2` two, which are used as `%r#0` and `%r#1`.
-use Rattle.std.specs.Prelude.{ℕ, ◌+◌, ◌-◌, ◌*◌, ◌==◌, Bool, true, false, not, ◌&&◌, List, [], ◌∷◌, ◌++◌, map, sum, flat_map, take, drop, length, position, unwrap_or, codes}
-use Rattle.std.specs.List.{fold, list_all, list_any, range_with_len}
+use Rattle.std.specs.Prelude.{ℕ, ◌+◌, ◌-◌, ◌*◌, ◌==◌, Bool, true, not, ◌&&◌, List, [], ◌∷◌, ◌++◌, map, sum, flat_map, take, drop, length, position, unwrap_or, codes}
+use Rattle.std.specs.List.{fold, list_any, range_with_len}
 use Rattle.std.specs.Str.{bytes_eq}
 use Rattle.std.specs.Fmt.{decimal}
 

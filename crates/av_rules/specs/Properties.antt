@@ -1,8 +1,7 @@
 -- Properties: those that are needed, their form, the arity of maps and lists, steps, and what maps are made of.
-use Rattle.std.specs.Prelude.{ℕ, ◌+◌, ◌-◌, ◌^◌, ◌==◌, nat_le, nat_lt, ℤ, pos, int_le, int_lt, Bool, true, false, not, ◌&&◌, ◌||◌, if◌then◌else◌, List, [], ◌∷◌, length, map, take, drop, Option, Some, None, is_some, unwrap_or, codes, count_by}
-use Rattle.std.specs.List.{list_all, list_any}
-use Rattle.std.specs.Option.{option_and_then, option_map, option_map_or}
-use Rattle.std.specs.Str.{bytes_eq}
+use Rattle.std.specs.Prelude.{ℕ, ◌+◌, ◌^◌, ◌==◌, nat_le, nat_lt, ℤ, pos, int_le, int_lt, Bool, true, false, not, ◌&&◌, ◌||◌, List, length, map, take, drop, Option, Some, is_some, unwrap_or, codes, count_by}
+use Rattle.std.specs.List.{list_all}
+use Rattle.std.specs.Option.{option_and_then, option_map_or}
 use Rattle.av_ir.specs.declared.ty.Ty.{Ty}
 use Rattle.av_maps.specs.declared.roles.Role.{Role}
 use Rattle.av_maps.specs.Asked.{has_few_results, has_few_rows, is_affine_map, is_affine_set, set_takes, takes}
@@ -15,12 +14,10 @@ use Rattle.av_signatures.specs.declared.signature.Demand.{Demand}
 use Rattle.av_signatures.specs.declared.signature.Demand.TheVariants as demand
 use Rattle.av_signatures.specs.declared.signature.Form.{Form}
 use Rattle.av_signatures.specs.declared.signature.Form.TheVariants as form
-use Rattle.av_signatures.specs.declared.signature.Segment.{Segment}
 use Rattle.av_signatures.specs.declared.signature.Segment.TheVariants as segment
 use Rattle.av_signatures.specs.declared.signature.Uses.{Uses}
 use Rattle.av_signatures.specs.declared.signature.Uses.TheVariants as uses
 use Rattle.av_signatures.specs.Rows.{Property}
-use Rattle.av_tree.specs.declared.attribute.Attr.{Attr}
 use Rattle.av_tree.specs.declared.attribute.Named.{Named}
 use Rattle.av_tree.specs.declared.written.MapText.{MapText}
 use Rattle.av_tree.specs.declared.written.SetText.{SetText}

@@ -1,11 +1,10 @@
 -- The regions of an operation: how many there are, with how many arguments, and how they end.
-use Rattle.std.specs.Prelude.{ℕ, ◌+◌, ◌==◌, Bool, true, false, not, ◌&&◌, ◌||◌, List, [], length, Option, Some, None}
+use Rattle.std.specs.Prelude.{◌==◌, Bool, true, false, not, ◌&&◌, ◌||◌, List, length, Option, None}
 use Rattle.std.specs.List.{last_or, list_all}
-use Rattle.std.specs.Option.{option_and_then, option_map, option_map_or}
+use Rattle.std.specs.Option.{option_map_or}
 use Rattle.av_signatures.specs.declared.signature.Ending.{Ending}
 use Rattle.av_signatures.specs.declared.signature.Role.{Role}
 use Rattle.av_signatures.specs.declared.signature.Role.TheVariants as role
-use Rattle.av_tree.specs.declared.node.Body.{Body}
 use Rattle.av_tree.specs.declared.node.Node.{Node}
 use Rattle.av_rules.specs.Agreement.{argument_types}
 use Rattle.av_rules.specs.Counts.{is_in_place}

@@ -1,13 +1,11 @@
 -- Every operation of a tree, in the order of the text, in its place. Its number is its place in this list.
-use Rattle.std.specs.Prelude.{ℕ, zero, suc, ◌+◌, ◌==◌, Bool, true, false, ◌&&◌, ◌||◌, not, if◌then◌else◌, List, [], ◌∷◌, ◌++◌, length, map, flat_map, sum, slice_get, Option, Some, None, unwrap_or, codes, reverse}
-use Rattle.std.specs.List.{list_all}
-use Rattle.std.specs.Option.{option_and_then, option_flatten, option_map, option_map_or}
+use Rattle.std.specs.Prelude.{ℕ, zero, suc, ◌+◌, ◌==◌, Bool, true, false, ◌||◌, not, if◌then◌else◌, List, [], ◌∷◌, ◌++◌, length, map, flat_map, Option, Some, None, unwrap_or, codes}
+use Rattle.std.specs.Option.{option_and_then, option_map, option_map_or}
 use Rattle.std.specs.Str.{bytes_eq}
 use Rattle.av_ir.specs.declared.ty.Ty.{Ty}
 use Rattle.av_maps.specs.declared.roles.Role.{Role}
 use Rattle.av_maps.specs.declared.roles.Role.TheVariants as stands
 use Rattle.av_maps.specs.Roles.{applied_role}
-use Rattle.av_signatures.specs.declared.signature.Arguments.{Arguments}
 use Rattle.av_signatures.specs.declared.signature.Arguments.TheVariants as arguments
 use Rattle.av_signatures.specs.declared.signature.Ending.TheVariants as ending
 use Rattle.av_signatures.specs.declared.signature.Role.{Role as Held}

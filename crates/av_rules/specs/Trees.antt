@@ -1,7 +1,6 @@
 -- Small trees, to try the rules on: a module with one function of a buffer, an index and an integer.
-use Rattle.std.specs.Prelude.{ℕ, ℤ, pos, List, [], ◌∷◌, ◌++◌, map, Option, Some, None, codes}
+use Rattle.std.specs.Prelude.{ℕ, ℤ, pos, List, [], ◌∷◌, ◌++◌, map, Some, None, codes}
 use mathlib.Core.Former.{arity, list, this}
-use Rattle.av_tree.specs.declared.attribute.Alias.{Alias}
 use Rattle.av_tree.specs.declared.attribute.Attr.{Attr}
 use Rattle.av_tree.specs.declared.attribute.Attr.TheVariants as attr
 use Rattle.av_tree.specs.declared.attribute.Named.{Named}
@@ -11,7 +10,6 @@ use Rattle.av_tree.specs.declared.node.Node.{Node, Node', Row_of-Body, end_of-Bo
 use Rattle.av_tree.specs.declared.node.Tree.{Tree}
 use Rattle.av_tree.specs.declared.written.ExprText.{ExprText}
 use Rattle.av_tree.specs.declared.written.ExprText.TheVariants as expr
-use Rattle.av_tree.specs.declared.written.MapText.{MapText}
 use Rattle.av_tree.specs.declared.written.SizeText.TheVariants as size
 use Rattle.av_tree.specs.declared.written.DimText.TheVariants as dim
 use Rattle.av_tree.specs.declared.written.TypeText.{TypeText, Func', Row_of-TypeText, end_of-TypeText, more_of-TypeText}

@@ -1,7 +1,7 @@
 -- The types of an operation's results, and the types at its places.
-use Rattle.std.specs.Prelude.{ℕ, ◌+◌, ◌-◌, nat_le, nat_lt, ℤ, Bool, true, false, ◌&&◌, if◌then◌else◌, List, [], ◌∷◌, length, map, take, drop, slice_get, Option, Some, None, codes}
+use Rattle.std.specs.Prelude.{ℕ, ◌+◌, ◌-◌, nat_le, nat_lt, ℤ, Bool, true, false, if◌then◌else◌, List, [], ◌∷◌, length, map, take, drop, slice_get, Option, Some, None, codes}
 use Rattle.std.specs.List.{list_any}
-use Rattle.std.specs.Option.{option_and_then, option_map, option_map_or, option_flatten}
+use Rattle.std.specs.Option.{option_and_then, option_map, option_flatten}
 use Rattle.av_ir.specs.declared.ty.Elem.TheVariants.{Index}
 use Rattle.av_ir.specs.declared.ty.Ty.{Ty}
 use Rattle.av_ir.specs.declared.ty.Ty.TheVariants as ty
@@ -16,7 +16,7 @@ use Rattle.av_signatures.specs.TableLaws.{least}
 use Rattle.av_tree.specs.declared.written.TypeText.{TypeText}
 use Rattle.av_types.specs.Texts.{is_type}
 use Rattle.av_types.specs.Types.{named_type}
-use Rattle.av_types.specs.Relations.{element_of, part_of, rank_of, sized, truths_of}
+use Rattle.av_types.specs.Relations.{element_of, part_of, rank_of, truths_of}
 use Rattle.av_rules.specs.Entries.{numbers_of, segments_of}
 use Rattle.av_rules.specs.Places.{Site, operand_types}
 use Rattle.av_rules.specs.Rows.{Row}

@@ -2,6 +2,7 @@
 
 ghost use Rattle.av_rules.specs.Examples.{RuleExamples};
 ghost use Rattle.av_rules.specs.Fails.{LeastLaw};
+ghost use Rattle.av_rules.specs.RowExamples.{RowExamples};
 ghost use Rattle.av_rules.specs.Views.{ViewsLaw};
 
 /// The pair that is answered fails and none that fails comes before it; none is answered exactly where
@@ -10,9 +11,14 @@ pub fn least_pairs()
     ensures { LeastLaw }
 {}
 
-/// Small trees, each taken, or refused for the operation and the code that are said.
+/// For each code small trees, each taken, or refused for the operation and the code that are said.
 pub fn some_trees()
     ensures { RuleExamples }
+{}
+
+/// For most operations a tree that is taken, and one that is refused.
+pub fn some_operations()
+    ensures { RowExamples }
 {}
 
 /// What is read off an operation and a region is what they have.
