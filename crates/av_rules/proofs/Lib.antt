@@ -1,4 +1,5 @@
 pub mod Computed
+pub mod ComputedEdges
 pub mod ComputedRows
 pub mod Least
 pub mod Read

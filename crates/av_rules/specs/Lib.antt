@@ -17,3 +17,4 @@ pub mod Fails
 pub mod Trees
 pub mod Examples
 pub mod RowExamples
+pub mod EdgeExamples

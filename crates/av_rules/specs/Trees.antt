@@ -100,13 +100,17 @@ add result a b t = simple (codes "arith.addi") result (a ∷ b ∷ []) [] (t ∷
 abbrev pub apply : List ℕ → List (List ℕ) → ExprText → Node
 apply result operands e = simple (codes "affine.apply") result operands (entry (codes "map") (map_over e) ∷ []) (map (λ _. index) operands) index
 
--- a loop over %i from 0 to 4 that carries nothing
-abbrev pub loop_with : Attr → List ℤ → List Node → Node
-loop_with step segments nodes =
+-- a loop over a counter from 0 to 4 that carries nothing
+abbrev pub loop_over : List ℕ → Attr → List ℤ → List Node → Node
+loop_over counter step segments nodes =
     operation (codes "affine.for") [] []
     (entry (codes "lowerBoundMap") (bound (pos 0)) ∷ entry (codes "operandSegmentSizes") (attr.Array i32 segments)
     ∷ entry (codes "step") step ∷ entry (codes "upperBoundMap") (bound (pos 4)) ∷ [])
-    (region (arg (codes "%i") index ∷ []) nodes ∷ []) [] []
+    (region (arg counter index ∷ []) nodes ∷ []) [] []
+
+-- the same over %i
+abbrev pub loop_with : Attr → List ℤ → List Node → Node
+loop_with step segments nodes = loop_over (codes "%i") step segments nodes
 
 abbrev pub loop : List Node → Node
 loop nodes = loop_with (number (pos 1) index) (pos 0 ∷ pos 0 ∷ pos 0 ∷ []) nodes

@@ -1,5 +1,6 @@
 //! What holds of the definitions as a whole, for the proofs of callers. These functions do nothing.
 
+ghost use Rattle.av_rules.specs.EdgeExamples.{EdgeExamples};
 ghost use Rattle.av_rules.specs.Examples.{RuleExamples};
 ghost use Rattle.av_rules.specs.Fails.{LeastLaw};
 ghost use Rattle.av_rules.specs.RowExamples.{RowExamples};
@@ -19,6 +20,11 @@ pub fn some_trees()
 /// For most operations a tree that is taken, and one that is refused.
 pub fn some_operations()
     ensures { RowExamples }
+{}
+
+/// At the edges of limits, and where two things are wrong, trees that are taken or refused as is said.
+pub fn some_edges()
+    ensures { EdgeExamples }
 {}
 
 /// What is read off an operation and a region is what they have.
