@@ -23,10 +23,11 @@ use Rattle.av_rules.specs.Views.{fields, inside}
 abbrev pub operand_count : Site → ℕ
 operand_count site = length (fields site.node).operands
 
--- the sizes of a written type; none where it has no sizes at all
+-- how many sizes a written type has; nothing where it is no type with sizes, as a vector without any is none
 abbrev pub sizes_written : TypeText → Option ℕ
 sizes_written (MemRef sizes elem layout) = Some (length sizes)
-sizes_written (Vector dims elem) = Some (length dims)
+sizes_written (Vector [] elem) = None
+sizes_written (Vector (d ∷ dims) elem) = Some (length (d ∷ dims))
 sizes_written _ = None
 
 abbrev pub written_at : Site → Place → Option TypeText

@@ -115,6 +115,8 @@ Lanes =
     ∷ access (codes "vector.maskedstore") (codes "%A" ∷ codes "%n" ∷ codes "%m" ∷ codes "%w" ∷ []) (buffer ∷ index ∷ truths ∷ four ∷ [])
     ∷ access (codes "vector.store") (codes "%w" ∷ codes "%A" ∷ codes "%n" ∷ []) (four ∷ buffer ∷ index ∷ []) ∷ []))
     × IsRefused (body (load_four truths ∷ [])) 2 6
+    × IsRefused (body (simple (codes "vector.create_mask") (codes "%m") (codes "%n" ∷ []) [] (index ∷ []) (type.Vector [] (codes "i1")) ∷ [])) 2 6
+    × IsRefused (body (simple (codes "vector.create_mask") (codes "%m") [] [] [] truths ∷ [])) 2 2
     × IsRefused (body (load_four four
     ∷ simple (codes "vector.maskedload") (codes "%w") (codes "%A" ∷ codes "%n" ∷ codes "%v" ∷ codes "%v" ∷ []) [] (buffer ∷ index ∷ four ∷ four ∷ []) four ∷ [])) 3 6
 
