@@ -3,3 +3,4 @@ pub mod ComputedEdges
 pub mod ComputedRows
 pub mod Least
 pub mod Read
+pub mod Walk

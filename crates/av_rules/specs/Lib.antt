@@ -18,3 +18,4 @@ pub mod Trees
 pub mod Examples
 pub mod RowExamples
 pub mod EdgeExamples
+pub mod Walks

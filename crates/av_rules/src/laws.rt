@@ -5,6 +5,7 @@ ghost use Rattle.av_rules.specs.Examples.{RuleExamples};
 ghost use Rattle.av_rules.specs.Fails.{LeastLaw};
 ghost use Rattle.av_rules.specs.RowExamples.{RowExamples};
 ghost use Rattle.av_rules.specs.Views.{ViewsLaw};
+ghost use Rattle.av_rules.specs.Walks.{AllSitesLaw};
 
 /// The pair that is answered fails and none that fails comes before it; none is answered exactly where
 /// none fails.
@@ -30,4 +31,9 @@ pub fn some_edges()
 /// What is read off an operation and a region is what they have.
 pub fn views_agree()
     ensures { ViewsLaw }
+{}
+
+/// Each operation of a tree has one place in the walk, and there are no others.
+pub fn all_sites()
+    ensures { AllSitesLaw }
 {}

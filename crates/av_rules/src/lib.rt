@@ -7,5 +7,5 @@
 mod laws;
 mod mode;
 
-pub use laws::{least_pairs, some_edges, some_operations, some_trees, views_agree};
+pub use laws::{all_sites, least_pairs, some_edges, some_operations, some_trees, views_agree};
 pub use mode::Mode;
