@@ -4,4 +4,5 @@ pub mod WrittenLaws
 pub mod Asked
 pub mod Roles
 pub mod Applying
+pub mod ApplyingLaws
 pub mod Examples
