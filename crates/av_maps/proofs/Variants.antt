@@ -80,6 +80,10 @@ holds_test e a =
     let found = tested-found e (bound_found e) (is_some (bound_found e)) refl refl (a.1, a.2) in
     grind (arith, nat_tests)
 
+pub test_admissible : (own few found : Bool) (e : Expr) → found ≡ is_some (bound_found e) → few ≡ nat_le (node_count e) 64
+    → (own && few && found) ≡ true → Admissible e
+test_admissible own few found e h k t = test_holds e few found h k (grind arith)
+
 -- what the test of the limits answers
 pub admissible_test : (e : Expr) (r : Bool) → IsTrue r ↔ Admissible e → r ≡ test e
 admissible_test e r (sound, full) =

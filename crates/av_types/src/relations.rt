@@ -4,9 +4,10 @@ ghost use Rattle.std.specs.Prelude.{◌≡◌, [], ◌∷◌, IfOk};
 ghost use Rattle.std.specs.Cmp.Lexicographic.{pointwise};
 ghost use Rattle.av_ir.specs.declared.ty.Ty.TheVariants.{MemRef, Scalar, Vector};
 ghost use Rattle.av_ir.specs.declared.ty.Extent.TheVariants.{Fixed};
-ghost use Rattle.av_types.specs.Relations.{element_of, fits_behind, is_elem, is_extent, is_memref, is_scalar, is_vector, part_of, rank_of, same_elements, same_sizes, same_type, stretch, stretches_to, with_elements};
+ghost use Rattle.av_types.specs.Relations.{element_of, fits_behind, is_elem, is_extent, is_index, is_memref, is_scalar, is_truth, is_vector, part_of, rank_of, same_elements, same_sizes, same_type, stretch, stretches_to, with_elements};
 
 use av_affine::Duplicate;
+use av_bits::Width;
 use av_ir::{Elem, Extent, Ty};
 use av_shapes::Shape;
 use std::alloc::{AllocError, Global};
@@ -63,6 +64,20 @@ pub fn is_elem(elem: Elem, other: Elem) -> bool
             Elem::Index => false,
         },
     }
+}
+
+/// Whether an element type is `index`.
+pub fn is_index(elem: Elem) -> bool
+    ensures { result ≡ is_index elem }
+{
+    matches!(elem, Elem::Index)
+}
+
+/// Whether an element type is that of truth values.
+pub fn is_truth(elem: Elem) -> bool
+    ensures { result ≡ is_truth elem }
+{
+    is_elem(elem, Elem::Int(Width::W1))
 }
 
 /// Whether two sizes of memref types are the same.
