@@ -9,3 +9,4 @@ pub mod Meanings
 pub mod Operations
 pub mod Spellings
 pub mod Forms
+pub mod Gifts
