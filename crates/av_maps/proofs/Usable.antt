@@ -9,9 +9,9 @@ use Rattle.av_affine.specs.declared.expression.Expr.{Expr}
 use Rattle.av_affine.specs.declared.expression.SetRow.{SetRow}
 use Rattle.av_affine.specs.Finding.{bound_found}
 use Rattle.av_affine.specs.Limits.{Admissible, node_count}
-use Rattle.av_forms.specs.Normalised.{IsNormal, normalised, parameter_for, renamed, by_kind, occurring}
-use Rattle.av_forms.proofs.Normalising.{normalised-is-normal-law}
-use Rattle.av_forms.proofs.Renamed.{normalised-limits-law}
+use Rattle.av_affine_laws.specs.Normalised.{IsNormal, normalised, parameter_for, renamed, by_kind, occurring}
+use Rattle.av_affine_laws.proofs.Normalising.{normalised-is-normal-law}
+use Rattle.av_affine_laws.proofs.Renamed.{normalised-limits-law}
 use Rattle.av_maps.specs.Applying.{normal_use, numbers, value_of}
 use Rattle.av_maps.specs.ApplyingLaws.{NormalUseLaw, UsableMapLaw, UsableSetLaw}
 use Rattle.av_maps.specs.Asked.{has_own, is_good}

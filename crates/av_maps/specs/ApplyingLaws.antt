@@ -1,7 +1,7 @@
 -- What holds of written maps and sets that are taken, with the values of their operands.
 use Rattle.std.specs.Prelude.{◌≡◌, true, List}
 use Rattle.av_affine.specs.declared.expression.AffMap.{AffMap}
-use Rattle.av_forms.specs.Normalised.{IsNormal}
+use Rattle.av_affine_laws.specs.Normalised.{IsNormal}
 use Rattle.av_ir.specs.declared.module.ValueId.{ValueId}
 use Rattle.av_ir.specs.WellFormed.{IsUsable, IsUsableSet}
 use Rattle.av_tree.specs.declared.written.MapText.{MapText}
