@@ -17,7 +17,7 @@ use Rattle.av_printer.specs.Expressions.{first_value, value, subscripts}
 use Rattle.av_dialects.specs.declared.item.Lead.TheVariants as lead
 use Rattle.av_dialects.specs.Rows.{names, forms as table}
 use Rattle.av_printer.specs.OwnForms.{own_form, own_line, own_end}
-use Rattle.av_printer.specs.Parts.{before_regions, behind_regions, behind_seen, form_line, form_end, first_word, parts_pieces, part_pieces, flags_of}
+use Rattle.av_printer.specs.Parts.{before_regions, behind_seen, form_line, form_end, first_word, parts_pieces, part_pieces, flags_of}
 use Rattle.av_printer.specs.Operations.{Head, first_of, results_before, property, map_of, subscripts_if_any, buffer}
 use Rattle.av_printer.specs.Spelling.{on_line, is_silent, is_yield, operation_of, node_line, own_bodies}
 use Rattle.av_printer.proofs.NodeSteps.{silent-of, whole-own}

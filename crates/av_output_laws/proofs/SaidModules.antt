@@ -24,7 +24,7 @@ use Rattle.av_printer.specs.Pieces.{Piece, space, sign, plain, new_line, commas,
 use Rattle.av_printer.specs.Expressions.{number, single_bound, single_bound_of, constant_bound, bound_by}
 use Rattle.av_printer.specs.Types.{type_pieces}
 use Rattle.av_printer.specs.OwnForms.{own_form, own_line}
-use Rattle.av_printer.specs.Parts.{before_regions, behind_regions, behind_seen, form_line, form_end, first_word, parts_pieces, part_pieces, bound_in, bound_of}
+use Rattle.av_printer.specs.Parts.{before_regions, behind_seen, form_line, form_end, first_word, parts_pieces, part_pieces, bound_in, bound_of}
 use Rattle.av_dialects.specs.declared.item.Item.TheVariants as item
 use Rattle.av_dialects.specs.declared.item.Lead.TheVariants as lead
 use Rattle.av_dialects.specs.Rows.{Part, names, forms as table}

@@ -9,7 +9,7 @@ use Rattle.av_dialects.specs.Rows.{Part}
 use Rattle.av_dialects.specs.Types.{needs}
 use Rattle.av_printer.specs.Pieces.{Piece}
 use Rattle.av_printer.specs.Operations.{Head}
-use Rattle.av_printer.specs.Parts.{lead_pieces, item_pieces, part_pieces, parts_pieces, share, before_regions, behind_regions, behind_seen, first_word, form_line, form_end}
+use Rattle.av_printer.specs.Parts.{lead_pieces, item_pieces, part_pieces, parts_pieces, share, before_regions, behind_regions, first_word, form_line, form_end}
 use Rattle.av_program_laws.proofs.Balance.{Moves, with, nothing, plain_moves, sign_moves, space_moves, spaced_moves, comma_moves}
 
 lead_moves : (k : ℕ) (l : Lead) → Moves k 0 (lead_pieces l)

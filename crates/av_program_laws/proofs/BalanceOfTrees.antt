@@ -26,7 +26,7 @@ use Rattle.av_printer.specs.Pieces.{Piece, space, new_line, sign, plain, joined}
 use Rattle.av_printer.specs.Expressions.{first_value, value, number}
 use Rattle.av_printer.specs.Operations as lines
 use Rattle.av_printer.specs.Operations.{Head, first_of, property}
-use Rattle.av_dialects.specs.Rows.{names, forms}
+use Rattle.av_dialects.specs.Rows.{names, forms, form_of}
 use Rattle.av_printer.specs.OwnForms.{own_form, own_line, own_end}
 use Rattle.av_printer.specs.Parts.{before_regions, behind_regions, behind_seen, flags_of, bound_of}
 use Rattle.av_printer.specs.Spelling.{Operation, on_line, left_out, operation_of, node_line, own_body, own_bodies, pieces_of}
