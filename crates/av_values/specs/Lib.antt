@@ -5,6 +5,7 @@ pub mod Expressions
 pub mod Nodes
 pub mod Loops
 pub mod Accesses
+pub mod Made
 pub mod Meanings
 pub mod Operations
 pub mod Spellings

@@ -90,6 +90,21 @@ pub fn carry(
     Ok(number)
 }
 
+/// The first values of carried arguments and the arguments, from the last to the first, with their types.
+pub fn carried_of(
+    alloc: Global,
+    pairs: Seq<CarriedPair>,
+    types: Seq<TypeText>,
+) -> Result<(CarriedLists, Seq<TypeText>), Fault>
+    ensures lists { IfOk result (λ made. made.0 ≡ carried_lists (reverse pairs) types) }
+    ensures types { IfOk result (λ made. made.1 ≡ types) }
+    ensures err { IfErr result (λ fault. fault ≡ Fault.NoMemory) }
+{
+    let own = types.duplicate(alloc)?;
+    let lists = paired(alloc, pairs, types)?;
+    Ok((lists, own))
+}
+
 // An argument of each of the types, as far as there are pairs, which stand from the last to the first.
 fn paired(
     alloc: Global,

@@ -65,8 +65,8 @@ pub fn push_operands(node: &mut Node, operands: Seq<Text>) -> Result<(), Fault>
     Ok(())
 }
 
-// Types that aren't written, one for each operand.
-fn unwritten(alloc: Global, operands: &[Text]) -> Result<Seq<Option<TypeText>>, Fault>
+/// Types that aren't written, one for each operand.
+pub fn unwritten(alloc: Global, operands: &[Text]) -> Result<Seq<Option<TypeText>>, Fault>
     ensures ok { IfOk result (λ types. types ≡ map (λ _. None) operands.now) }
     ensures err { IfErr result (λ fault. fault ≡ Fault.NoMemory) }
 {
