@@ -24,27 +24,45 @@ taken-none t ss make before e =
 
 pub ruleset taking = (taken-end, taken-top, taken-none)
 
--- ---- what is put in the place of the values
+-- ---- one value after another
+through : {T P Q : Type 0} (o : Option T) (f : T → Option P) (g : T → Option Q) (want : P) (after : Option Q)
+    → ((top : T) → f top ≡ Some want → g top ≡ after) → option_and_then f o ≡ Some want → option_and_then g o ≡ after
+through None f g want after h e = absurd (cc)
+through (Some top) f g want after h e = h top e
+
+through-none : {T P Q : Type 0} (o : Option T) (f : T → Option P) (g : T → Option Q)
+    → ((top : T) → f top ≡ None → g top ≡ None) → option_and_then f o ≡ None → option_and_then g o ≡ None
+through-none None f g h e = refl
+through-none (Some top) f g h e = h top e
+
+mapped : {T P Q : Type 0} (o : Option T) (f : T → Option P) (g : T → Option Q) (m : P → Q)
+    → ((top : T) → g top ≡ option_map m (f top)) → option_and_then g o ≡ option_map m (option_and_then f o)
+mapped None f g m h = refl
+mapped (Some top) f g m h = h top
+
 -- values are replaced by what is made of them as they are taken
 pub replaced-taken : {A : Type 0} (ss : List Sort) (s : Sort) (f : A → Of s) (make : All ss → A) (under : List Value)
     → replaced ss s (λ vs. Some (f (make vs))) under ≡ option_map (λ (t : A × List Value). any s (f t.0) ∷ t.1) (taken ss make under)
 unfolding replaced taken
 replaced-taken [] s f make under = refl
-replaced-taken (t ∷ ss) s f make under = elim (cases_Option (on_top t under)) [
-  | inl none ↦ rw none refl
-  | inr (top, some) ↦ rw some (replaced-taken ss s f (λ others. make (top.0, others)) top.1)
-]
+replaced-taken (t ∷ ss) s f make under = mapped (on_top t under) _ _ _ (λ top. replaced-taken ss s f (λ others. make (top.0, others)) top.1)
+
+same-start : {A B : Type 0} (ss : List Sort) (make : A → All ss → B) (first got : A) (before under : List Value) (after : Option (B × List Value))
+    → Some (first, before) ≡ Some (got, under) → taken ss (make got) under ≡ after → taken ss (make first) before ≡ after
+same-start ss make first got before under after e f = cc
 
 -- values of symbols one behind another: those of the first are taken, and then those of the others
 pub taken-behind : {A B : Type 0} (xs ys : List Symbol) (first : All (sorts_of xs) → A) (make : A → All (sorts_of ys) → B) (got : A) (before under : List Value)
     (after : Option (B × List Value)) → taken (sorts_of xs) first before ≡ Some (got, under) → taken (sorts_of ys) (make got) under ≡ after
     → taken (sorts_of (xs ++ ys)) (λ vs. let both = split xs ys vs in make (first both.0) both.1) before ≡ after
 unfolding taken
-taken-behind [] ys first make got before under after e f = ?
+taken-behind [] ys first make got before under after e f = same-start (sorts_of ys) make (first tt) got before under after e f
 taken-behind (symbol.Sign s ∷ xs) ys first make got before under after e f = taken-behind xs ys first make got before under after e f
 taken-behind (symbol.Word w ∷ xs) ys first make got before under after e f = taken-behind xs ys first make got before under after e f
-taken-behind (symbol.Token t ∷ xs) ys first make got before under after e f = ?
-taken-behind (symbol.Rows x ∷ xs) ys first make got before under after e f = ?
+taken-behind (symbol.Token t ∷ xs) ys first make got before under after e f =
+    through (on_top a_text before) _ _ (got, under) after (λ top k. taken-behind xs ys (λ others. first (top.0, others)) make got top.1 under after k f) e
+taken-behind (symbol.Rows x ∷ xs) ys first make got before under after e f =
+    through (on_top (sort_of x) before) _ _ (got, under) after (λ top k. taken-behind xs ys (λ others. first (top.0, others)) make got top.1 under after k f) e
 
 -- where those of the first aren't there, nothing is made
 pub taken-not-behind : {A B : Type 0} (xs ys : List Symbol) (first : All (sorts_of xs) → A) (make : A → All (sorts_of ys) → B) (before : List Value)
@@ -53,5 +71,7 @@ unfolding taken
 taken-not-behind [] ys first make before e = absurd (cc)
 taken-not-behind (symbol.Sign s ∷ xs) ys first make before e = taken-not-behind xs ys first make before e
 taken-not-behind (symbol.Word w ∷ xs) ys first make before e = taken-not-behind xs ys first make before e
-taken-not-behind (symbol.Token t ∷ xs) ys first make before e = ?
-taken-not-behind (symbol.Rows x ∷ xs) ys first make before e = ?
+taken-not-behind (symbol.Token t ∷ xs) ys first make before e =
+    through-none (on_top a_text before) _ _ (λ top k. taken-not-behind xs ys (λ others. first (top.0, others)) make top.1 k) e
+taken-not-behind (symbol.Rows x ∷ xs) ys first make before e =
+    through-none (on_top (sort_of x) before) _ _ (λ top k. taken-not-behind xs ys (λ others. first (top.0, others)) make top.1 k) e

@@ -100,9 +100,20 @@ pub fn carried_of(
     ensures types { IfOk result (λ made. made.1 ≡ types) }
     ensures err { IfErr result (λ fault. fault ≡ Fault.NoMemory) }
 {
-    let own = types.duplicate(alloc)?;
+    let own = copied(alloc, types.as_slice())?;
     let lists = paired(alloc, pairs, types)?;
     Ok((lists, own))
+}
+
+fn copied(alloc: Global, types: &[TypeText]) -> Result<Seq<TypeText>, Fault>
+    ensures ok { IfOk result (λ list. list ≡ types.now) }
+    ensures err { IfErr result (λ fault. fault ≡ Fault.NoMemory) }
+{
+    let mut list = Seq::new(alloc);
+    for ty in types {
+        list.push(ty.duplicate(alloc)?)?;
+    }
+    Ok(list)
 }
 
 // An argument of each of the types, as far as there are pairs, which stand from the last to the first.
