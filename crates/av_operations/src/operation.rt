@@ -51,12 +51,7 @@ fn made_of(
     }
 }
 
-fn blank(
-    alloc: Global,
-    number: u8,
-    place: u32,
-    types: Seq<Option<TypeText>>,
-) -> Result<Node, Fault>
+fn blank(alloc: Global, number: u8, place: u32, types: Seq<Option<TypeText>>) -> Result<Node, Fault>
     ensures ok { IfOk result (λ node. node ≡ roll-Node (the_blank number place types)) }
     ensures err { IfErr result (λ fault. fault ≡ Fault.NoMemory) }
 {

@@ -1,5 +1,5 @@
 -- How values are taken off a stack one by one, those of some symbols and then those of others.
-use Rattle.std.proofs.Common.{◌≡◌, List, [], ◌∷◌, ◌++◌, Option, Some, None, refl, sym, ap, ◌∙◌}
+use Rattle.std.proofs.Common.{◌≡◌, List, [], ◌∷◌, ◌++◌, Option, Some, None, refl, ap, ◌∙◌}
 use Rattle.std.specs.Option.{option_map, option_and_then}
 use Rattle.av_tree.specs.declared.table.Symbol.{Symbol}
 use Rattle.av_tree.specs.declared.table.Symbol.TheVariants as symbol
@@ -48,8 +48,8 @@ replaced-taken [] s f make under = refl
 replaced-taken (t ∷ ss) s f make under = mapped (on_top t under) _ _ _ (λ top. replaced-taken ss s f (λ others. make (top.0, others)) top.1)
 
 same-start : {A B : Type 0} (ss : List Sort) (make : A → All ss → B) (first got : A) (before under : List Value) (after : Option (B × List Value))
-    → Some (first, before) ≡ Some (got, under) → taken ss (make got) under ≡ after → taken ss (make first) before ≡ after
-same-start ss make first got before under after e f = cc
+    → ◌≡◌ {A = Option (A × List Value)} (Some (first, before)) (Some (got, under)) → taken ss (make got) under ≡ after → taken ss (make first) before ≡ after
+same-start {A = A} ss make first got before under after e f = ap (option_and_then (λ (t : A × List Value). taken ss (make t.0) t.1)) e ∙ f
 
 -- values of symbols one behind another: those of the first are taken, and then those of the others
 pub taken-behind : {A B : Type 0} (xs ys : List Symbol) (first : All (sorts_of xs) → A) (make : A → All (sorts_of ys) → B) (got : A) (before under : List Value)

@@ -1,5 +1,5 @@
 -- What an item of a form gives to an operation: its operands, which are put before those of the items behind it, and a change of another kind.
-use Rattle.std.specs.Prelude.{ℕ, ℤ, pos, ◌-◌, suc, if◌then◌else◌, List, [], ◌∷◌, ◌++◌, codes, drop, length, map, reverse, slice_set, take, Option, None, Some}
+use Rattle.std.specs.Prelude.{ℕ, ℤ, pos, ◌-◌, suc, if◌then◌else◌, List, [], ◌∷◌, ◌++◌, codes, drop, length, map, slice_set, take, Option, None, Some}
 use Rattle.std.specs.Str.{bytes_eq}
 use Rattle.av_dialects.specs.declared.item.Slot.{Slot}
 use Rattle.av_dialects.specs.declared.item.Slot.TheVariants as slot

@@ -1,5 +1,5 @@
 -- What the row of an operation makes of the values of its symbols: what each item of the form gives, from the last to the first. A list holds its last item first.
-use Rattle.std.specs.Prelude.{ℕ, ℤ, List, [], ◌∷◌, ◌++◌, codes, length, reverse, Option, None, Some}
+use Rattle.std.specs.Prelude.{ℕ, List, [], ◌∷◌, ◌++◌, codes, length, reverse, Option, None, Some}
 use Rattle.std.specs.Option.{option_and_then}
 use Rattle.av_dialects.specs.declared.item.Item.{Item}
 use Rattle.av_dialects.specs.declared.item.Item.TheVariants as item
@@ -13,7 +13,6 @@ use Rattle.av_dialects.specs.declared.item.Wanted.TheVariants as wanted
 use Rattle.av_dialects.specs.Rows.{Part, form_of, name_at, property_of, results_at}
 use Rattle.av_tree.specs.declared.attribute.Attr.{Attr}
 use Rattle.av_tree.specs.declared.attribute.Attr.TheVariants as attr
-use Rattle.av_tree.specs.declared.attribute.Named.{Named}
 use Rattle.av_tree.specs.declared.node.Node.{Node, roll-Node}
 use Rattle.av_tree.specs.declared.table.Symbol.{Symbol}
 use Rattle.av_tree.specs.declared.table.Symbol.TheVariants as symbol
@@ -27,7 +26,6 @@ use Rattle.av_values.specs.declared.gifts.Gift.{Gift}
 use Rattle.av_values.specs.declared.value.Carried.{Carried}
 use Rattle.av_values.specs.declared.value.Expression.{Expression}
 use Rattle.av_values.specs.declared.value.MapUse.{MapUse}
-use Rattle.av_values.specs.declared.value.TypedValues.{TypedValues}
 use Rattle.av_values.specs.declared.value.Value.{Value}
 use Rattle.av_values.specs.Accesses.{numbering}
 use Rattle.av_values.specs.Gifts.{Line, given, unwritten}

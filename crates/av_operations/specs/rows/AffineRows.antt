@@ -12,11 +12,6 @@ use Rattle.av_values.specs.declared.value.Value.{Value}
 use Rattle.av_values.specs.Sorts.{All, Of, replaced, sort_of, sorts_of}
 
 abbrev pub made : (r : AffineRule) → ℕ → All (sorts_of (symbols_of r)) → Of (sort_of (name_of r))
-made affine_rule.AffineFor place (name, (lower, (upper, (by, (carried, (nodes, (attrs, _))))))) = loop_of name lower upper by carried nodes attrs place
-made affine_rule.AffineIf place (set, (types, (nodes, (others, _)))) = branch_of set types nodes others place
-made affine_rule.AffineMapOp place (word, (map_use, _)) = map_operation_of word map_use place
-made affine_rule.AffineLoad place (buffer, (subscripts, (attrs, (type, _)))) = load_of buffer subscripts attrs type place
-made affine_rule.AffineStore place (value, (buffer, (subscripts, (attrs, (type, _))))) = store_of value buffer subscripts attrs type place
 made affine_rule.GreatestOf place (bound, _) = bound
 made affine_rule.PlainLowerBound place (bound, _) = bound
 made affine_rule.LeastOf place (bound, _) = bound
