@@ -220,7 +220,7 @@ fn is_plain_branch(node: &Node) -> bool
     node.name.as_slice() == b"affine.if".as_slice() && matches!(node.out_types.as_slice(), [])
 }
 
-// Two regions, the second of which has an operation; other regions as they are.
+// The second region with an operation; the others as they are.
 fn second_ended(alloc: Global, mut regions: Seq<Body>) -> Result<Seq<Body>, Fault>
     ensures ok { IfOk result (λ made. made ≡ the_second_ended regions) }
     ensures err { IfErr result (λ fault. fault ≡ Fault.NoMemory) }
@@ -228,14 +228,10 @@ fn second_ended(alloc: Global, mut regions: Seq<Body>) -> Result<Seq<Body>, Faul
     if !lacks_second(regions.as_slice()) {
         return Ok(regions);
     }
-    match regions.pop() {
-        Some(second) => {
-            let ended = with_end(alloc, second)?;
-            let made = before(ended, regions)?;
-            Ok(made)
-        }
-        None => Ok(regions),
-    }
+    let second = regions.remove(1);
+    let ended = with_end(alloc, second)?;
+    regions.insert(1, ended)?;
+    Ok(regions)
 }
 
 // A region with a terminator after its operations.
@@ -248,12 +244,12 @@ fn with_end(alloc: Global, mut body: Body) -> Result<Body, Fault>
     Ok(body)
 }
 
-// Whether these are two regions, the second without operations.
+// Whether there is a second region, without operations.
 fn lacks_second(regions: &[Body]) -> bool
     ensures { result ≡ lacks_second_of regions.now }
 {
     match regions {
-        [_, second] => matches!(second.nodes.as_slice(), []),
+        [_, second, ..] => matches!(second.nodes.as_slice(), []),
         _ => false,
     }
 }

@@ -1,9 +1,10 @@
 -- Names and the numbers of the operations that have them.
-use Rattle.std.proofs.Common.{◌≡◌, ◌≢◌, ℕ, ◌<◌, ◌&&◌, ◌||◌, Bool, true, false, not, zero, suc, List, [], ◌∷◌, length, map, slice_get, Option, None, Some, All, IfSome, MatchOption, arith, refl, ap, sym, ◌∙◌}
+use Rattle.std.proofs.Common.{◌≡◌, ◌≢◌, ℕ, ◌<◌, ◌&&◌, ◌||◌, Bool, true, false, not, zero, suc, List, [], ◌∷◌, length, map, slice_get, Option, None, Some, option_map, if◌then◌else◌, All, IfSome, MatchOption, arith, refl, ap, sym, ◌∙◌}
 use Rattle.std.specs.List.{HoldsAt, list_any}
 use Rattle.std.specs.Str.{bytes_eq}
+use Rattle.std.proofs.lemmas.Bool.{false≢true}
 use Rattle.std.proofs.lemmas.Slice.Eq.{bytes_eq-Decides}
-use Rattle.av_dialects.specs.Rows.{IsNoneOf, are_distinct, names}
+use Rattle.av_dialects.specs.Rows.{IsNoneOf, are_distinct, names, number_of, place_in}
 use Rattle.av_dialects.specs.TableLaws.{NamesLaw}
 
 -- ---- names that differ
@@ -67,3 +68,30 @@ pub what-is-found : {X : Type 0} (f : X → List ℕ) (name : List ℕ) (xs : Li
     → MatchOption found (IsNoneOf (map f xs) name) (λ k. slice_get (map f xs) k ≡ Some name)
 what-is-found f name xs None h within = none-named f name xs h
 what-is-found f name xs (Some k) h within = named-at f name xs k within h
+
+-- ---- the first place
+nowhere : (n : List ℕ) (ns : List (List ℕ)) (name : List ℕ) → (n ≡ name → ⊥) → IsNoneOf ns name → (k : ℕ) → slice_get (n ∷ ns) k ≡ Some name → ⊥
+nowhere n ns name f h zero e = f (cc)
+nowhere n ns name f h (suc k) e = h k e
+
+first-or-later : (same : Bool) (n : List ℕ) (ns : List (List ℕ)) (name : List ℕ) → (same ≡ true → n ≡ name) → (n ≡ name → same ≡ true) → (later : Option ℕ)
+    → MatchOption later (IsNoneOf ns name) (λ k. slice_get ns k ≡ Some name)
+    → MatchOption (if same then Some 0 else option_map suc later) (IsNoneOf (n ∷ ns) name) (λ k. slice_get (n ∷ ns) k ≡ Some name)
+first-or-later true n ns name f g later h = ap Some (f refl)
+first-or-later false n ns name f g None h = λ k e. nowhere n ns name (λ i. false≢true (g i)) h k e
+first-or-later false n ns name f g (Some k) h = h
+
+place-found : (ns : List (List ℕ)) (name : List ℕ) → MatchOption (place_in ns name) (IsNoneOf ns name) (λ k. slice_get ns k ≡ Some name)
+place-found [] name = λ k e. cc
+place-found (n ∷ ns) name = first-or-later (bytes_eq n name) n ns name (bytes_eq-Decides n name).0 (bytes_eq-Decides n name).1 (place_in ns name) (place-found ns name)
+
+same-finds : (ns : List (List ℕ)) (name : List ℕ) → are_distinct ns ≡ true → (a b : Option ℕ)
+    → MatchOption a (IsNoneOf ns name) (λ k. slice_get ns k ≡ Some name) → MatchOption b (IsNoneOf ns name) (λ k. slice_get ns k ≡ Some name) → a ≡ b
+same-finds ns name d None None h i = refl
+same-finds ns name d None (Some k) h i = absurd (h k i)
+same-finds ns name d (Some j) None h i = absurd (i j h)
+same-finds ns name d (Some j) (Some k) h i = ap Some (one-place ns d j k name h i)
+
+pub number-found : (name : List ℕ) (found : Option ℕ) → MatchOption found (IsNoneOf names name) (λ k. slice_get names k ≡ Some name)
+    → found ≡ number_of name
+number-found name found h = same-finds names name distinct-names found (number_of name) h (place-found names name)

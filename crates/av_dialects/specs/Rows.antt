@@ -1,5 +1,5 @@
 -- The table of operations as definitions read it.
-use Rattle.std.specs.Prelude.{ℕ, ◌≡◌, ◌&&◌, Bool, true, not, List, [], ◌∷◌, map, length, Some, slice_get, codes}
+use Rattle.std.specs.Prelude.{ℕ, ◌≡◌, ◌&&◌, Bool, true, not, List, [], ◌∷◌, map, length, Option, None, Some, slice_get, get_or, option_map, suc, if◌then◌else◌, codes}
 use Rattle.std.specs.List.{list_any}
 use Rattle.std.specs.Str.{bytes_eq}
 use Rattle.av_dialects.specs.declared.item.Item.{Item}
@@ -60,6 +60,19 @@ HasResults number r = slice_get results number ≡ Some r
 
 abbrev pub HasForm : ℕ → List Part → Type 0
 HasForm number parts = slice_get forms number ≡ Some parts
+
+-- the parts of an operation's form; none where no operation has the number
+abbrev pub form_of : ℕ → List Part
+form_of number = get_or forms number []
+
+-- the first place at which the name stands, or none
+abbrev pub place_in : List (List ℕ) → List ℕ → Option ℕ
+place_in [] name = None
+place_in (n ∷ ns) name = if bytes_eq n name then Some 0 else option_map suc (place_in ns name)
+
+-- the number of the operation with this name, or none
+abbrev pub number_of : List ℕ → Option ℕ
+number_of name = place_in names name
 
 -- the name stands at no place of the list
 abbrev pub IsNoneOf : List (List ℕ) → List ℕ → Type 0

@@ -1,6 +1,6 @@
-ghost use Rattle.std.specs.Prelude.{◌≡◌, ◌<◌, ◌≤◌, ◌≢◌, ◌↔◌, length, map, slice_get, All, IfSome, IsTrue, MatchOption, Some};
+ghost use Rattle.std.specs.Prelude.{◌≡◌, ◌<◌, ◌≤◌, ◌≢◌, ◌↔◌, [], get_or, length, map, slice_get, All, IfSome, IsTrue, MatchOption, Some};
 ghost use Rattle.std.specs.List.{HoldsAt};
-ghost use Rattle.av_dialects.specs.Rows.{HasForm, HasMode, HasName, HasResults, IsNoneOf, names, property_of, row_count};
+ghost use Rattle.av_dialects.specs.Rows.{form_of as the_form_of, number_of, HasForm, HasMode, HasName, HasResults, IsNoneOf, names, property_of, row_count};
 
 use super::{Key, Mode, Part, ROWS, Results, Row};
 
@@ -8,6 +8,7 @@ use super::{Key, Mode, Part, ROWS, Results, Row};
 pub fn row_of(name: &[u8]) -> Option<u8>
     ensures found { MatchOption result (IsNoneOf names name.now) (λ number. HasName number name.now) }
     ensures within { IfSome result (λ number. number < row_count) }
+    ensures number { result ≡ number_of name.now }
 {
     number_in(ROWS, name)
 }
@@ -70,6 +71,22 @@ pub fn parts_of(number: u8) -> &'static [Part]
     ensures { HasForm number result.now }
 {
     row_at(number).3
+}
+
+/// The parts of an operation's form, or none where no operation has the number.
+pub fn form_of(number: u8) -> &'static [Part]
+    ensures { result.now ≡ the_form_of number }
+{
+    form_in(ROWS, number as usize)
+}
+
+fn form_in(rows: &[Row], place: usize) -> &'static [Part]
+    ensures { result.now ≡ get_or (map (λ row. row.3.now) rows.now) place [] }
+{
+    match rows.get(place) {
+        Some(row) => row.3,
+        None => &[],
+    }
 }
 
 fn row_at(number: u8) -> Row

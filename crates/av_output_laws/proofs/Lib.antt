@@ -11,6 +11,7 @@ pub mod Modules
 pub mod PlainNames
 pub mod Saying
 pub mod SaidParts
+pub mod SaidForms
 pub mod SaidLines
 pub mod SaidModules
 pub mod PlainTypes

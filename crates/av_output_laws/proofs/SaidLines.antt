@@ -1,5 +1,5 @@
 -- The words of lines.
-use Rattle.std.proofs.Common.{◌≡◌, ℕ, Bool, true, false, List, [], ◌∷◌, ◌++◌, map, append_assoc, refl, sym, ap, ◌∙◌}
+use Rattle.std.proofs.Common.{◌≡◌, ℕ, ◌-◌, length, take, Bool, true, false, List, [], ◌∷◌, ◌++◌, map, append_assoc, refl, sym, ap, ◌∙◌}
 use Rattle.std.specs.Prelude.{if◌then◌else◌, Some, codes}
 use Rattle.av_bits.specs.declared.types.Width.TheVariants.{W32}
 use Rattle.av_lex.specs.declared.token.Kind.TheVariants as kinds
@@ -12,10 +12,13 @@ use Rattle.av_tree.specs.declared.node.Body.{Body, out-Body}
 use Rattle.av_printer.specs.declared.form.Form.TheVariants as forms
 use Rattle.av_printer.specs.declared.named.NamedForm.{NamedForm}
 use Rattle.av_printer.specs.declared.named.NamedForm.TheVariants as own
-use Rattle.av_printer.specs.Pieces.{Piece, space, plain, new_line, commas, behind, joined}
-use Rattle.av_printer.specs.Expressions.{value, subscripts}
-use Rattle.av_printer.specs.OwnForms.{own_form, arith_form, is_binary, own_line, own_end}
-use Rattle.av_printer.specs.Operations.{Head, first_of, results_before, property, map_of, constant_line, binary_line, values_pieces, subscripts_if_any, buffer, access, load_line, stored_value, store_line, marks_behind}
+use Rattle.av_printer.specs.Pieces.{Piece, new_line, joined}
+use Rattle.av_printer.specs.Expressions.{first_value, value, subscripts}
+use Rattle.av_dialects.specs.declared.item.Lead.TheVariants as lead
+use Rattle.av_dialects.specs.Rows.{names, forms as table}
+use Rattle.av_printer.specs.OwnForms.{own_form, own_line, own_end}
+use Rattle.av_printer.specs.Parts.{before_regions, behind_seen, form_line, form_end, first_word, parts_pieces, part_pieces, flags_of}
+use Rattle.av_printer.specs.Operations.{Head, first_of, results_before, property, map_of, subscripts_if_any, buffer}
 use Rattle.av_printer.specs.Spelling.{on_line, is_silent, is_yield, operation_of, node_line, own_bodies}
 use Rattle.av_printer.proofs.NodeSteps.{silent-of, whole-own}
 use Rattle.av_printer.proofs.OperationSteps.{map_of-some}
@@ -29,8 +32,9 @@ use Rattle.av_program_laws.specs.WrittenTrees.{entry, constant_attr, map_entry, 
 use Rattle.av_read_laws.specs.Making.{Word}
 use Rattle.av_output_laws.proofs.Parts.{sign_word, number_words, mark_words}
 use Rattle.av_output_laws.proofs.PlainNames.{HasPlain, plain_operation, plain-line}
-use Rattle.av_output_laws.proofs.Saying.{Says, none, also, said_as, saying, token_said, sign_said, space_said, new_line_said, value_said}
+use Rattle.av_output_laws.proofs.Saying.{Says, none, also, said_as, saying, token_said, new_line_said, value_said}
 use Rattle.av_output_laws.proofs.SaidParts.{results_said, first_type_said, marks_said, property_first, constant_value_said, subscripts_said}
+use Rattle.av_output_laws.proofs.SaidForms.{led, all_taken}
 use Rattle.av_output_laws.proofs.Subscripts.{subscript_words, dims_in}
 use Rattle.av_output_laws.proofs.ProgramWords.{value_word, plain_word, type_words, line_words, lines_words}
 
@@ -88,34 +92,33 @@ written_layer name place operands results types properties marks regions = recor
   out_types = map (λ ty. Some (type_of ty)) types;
 }
 
-word_said : (text : List ℕ) → Says (plain text ++ space) (λ ws. plain_word text ∷ ws)
-word_said text = also (token_said kinds.Word text) space_said
-
 -- ---- constants
 pub constant_said : (pattern : ℕ) (place : Place) (depth : ℕ)
     → Says (node_line forms.Named depth (constant_node pattern place))
     (λ ws. value_word (operation_name place.operations) ∷ sign_word signs.Equal ∷ plain_word (codes "arith.constant")
     ∷ (number_words (signed_low W32 pattern) ++ (sign_word signs.Colon ∷ plain_word (codes "i32") ∷ ws)))
-unfolding constant_node node own_form arith_form is_binary is_silent is_yield constant_line joined
+unfolding constant_node node own_form is_silent is_yield joined names table before_regions behind_seen form_line form_end first_word parts_pieces part_pieces
 constant_said pattern place depth =
     operation_said (written_layer (codes "arith.constant") place [] (next_name place) (element ∷ []) (entry (codes "value") (constant_attr pattern) ∷ []) [] [])
-    own.Constant depth refl refl
+    (own.Row _) depth refl refl
     (also (results_said (operation_name place.operations) (plain_operation place.operations))
-    (also (also (also (word_said (codes "arith.constant")) (constant_value_said (signed_low W32 pattern))) none) none))
+    (also (also (also (token_said kinds.Word (codes "arith.constant"))
+    (also (led lead.Blank (constant_value_said (signed_low W32 pattern))) none)) none) none))
 
 -- ---- sums
 sum_said : (left right : ℕ) (place : Place) (depth : ℕ) → HasPlain place
     → Says (node_line forms.Named depth (roll-Node (written_layer (codes "arith.addi") place (left ∷ right ∷ []) (next_name place) (type_at place left ∷ []) [] [] [])))
     (λ ws. value_word (operation_name place.operations) ∷ sign_word signs.Equal ∷ plain_word (codes "arith.addi") ∷ value_word (name_at place left)
     ∷ sign_word signs.Comma ∷ value_word (name_at place right) ∷ sign_word signs.Colon ∷ (type_words (type_at place left) ++ ws))
-unfolding own_form arith_form is_binary is_silent is_yield binary_line values_pieces commas behind joined
+unfolding own_form is_silent is_yield joined first_value flags_of property names table before_regions behind_seen form_line form_end first_word parts_pieces part_pieces
 sum_said left right place depth all =
-    operation_said (written_layer (codes "arith.addi") place (left ∷ right ∷ []) (next_name place) (type_at place left ∷ []) [] [] []) own.Binary depth refl refl
+    operation_said (written_layer (codes "arith.addi") place (left ∷ right ∷ []) (next_name place) (type_at place left ∷ []) [] [] []) (own.Row _) depth refl refl
     (also (results_said (operation_name place.operations) (plain_operation place.operations))
-    (also (also (also (also (word_said (codes "arith.addi"))
-    (also (value_said (name_at place left) (all left))
-    (also (also (also (sign_said signs.Comma) space_said) (value_said (name_at place right) (all right))) none)))
-    (first_type_said (type_at place left) [])) none) none))
+    (also (also (also (token_said kinds.Word (codes "arith.addi"))
+    (also (led lead.Blank (value_said (name_at place left) (all left)))
+    (also (led lead.Comma (value_said (name_at place right) (all right)))
+    (also (led lead.Nothing none)
+    (also (led lead.Colon (first_type_said (type_at place left) _)) none))))) none) none))
 
 -- ---- accesses
 operands_are : (counter : ℕ) (at : Subscript) (place : Place) → map (name_at place) (subscript_values counter at) ≡ dims_in (name_at place counter) at
@@ -127,18 +130,18 @@ operands_are counter (minus z) place = refl
 map_there : (at : Subscript) → map_of (property (map_entry (codes "map") (subscript_map at) ∷ []) (codes "map")) ≡ Some (subscript_map at)
 map_there at = ap map_of (property_first (codes "map") (attr.Map (subscript_map at)) [] refl) ∙ map_of-some (subscript_map at)
 
--- a buffer with its subscript, and a mark
-access_said : (from counter : ℕ) (at : Subscript) (number : ℕ) (place : Place) → HasPlain place
-    → Says (buffer (map_of (property (map_entry (codes "map") (subscript_map at) ∷ []) (codes "map"))) (map (name_at place) (from ∷ subscript_values counter at))
-    ++ marks_behind (mark (codes "affvec.of") number))
-    (λ ws. value_word (name_at place from) ∷ sign_word signs.OpenSquare ∷ (subscript_words (name_at place counter) at
-    ++ (sign_word signs.CloseSquare ∷ (mark_words (codes "affvec.of") number ++ ws))))
+-- a buffer with its subscript, by all operands that are left
+access_said : (from counter : ℕ) (at : Subscript) (place : Place) → HasPlain place
+    → let operands : List (List ℕ) = map (name_at place) (from ∷ subscript_values counter at) in
+    Says (buffer (map_of (property (map_entry (codes "map") (subscript_map at) ∷ []) (codes "map"))) (take (length operands - 0) operands))
+    (λ ws. value_word (name_at place from) ∷ sign_word signs.OpenSquare ∷ (subscript_words (name_at place counter) at ++ (sign_word signs.CloseSquare ∷ ws)))
 unfolding buffer subscripts_if_any
-access_said from counter at number place all =
-    also (said_as (ap (λ m. buffer m (name_at place from ∷ map (name_at place) (subscript_values counter at))) (map_there at)
+access_said from counter at place all =
+    let operands : List (List ℕ) = map (name_at place) (from ∷ subscript_values counter at) in
+    said_as (ap (buffer (map_of (property (map_entry (codes "map") (subscript_map at) ∷ []) (codes "map")))) (all_taken operands)
+    ∙ ap (λ m. buffer m operands) (map_there at)
     ∙ ap (λ values. value (name_at place from) ++ subscripts (subscript_map at) values) (operands_are counter at place))
-    (also (value_said (name_at place from) (all from)) (subscripts_said at (name_at place counter) (all counter))))
-    (marks_said (codes "affvec.of") number)
+    (also (value_said (name_at place from) (all from)) (subscripts_said at (name_at place counter) (all counter)))
 
 load_said : (from counter : ℕ) (at : Subscript) (place : Place) (depth : ℕ) → HasPlain place
     → Says (node_line forms.Named depth (roll-Node (written_layer (codes "affine.load") place (from ∷ subscript_values counter at) (next_name place) (element ∷ [])
@@ -146,13 +149,15 @@ load_said : (from counter : ℕ) (at : Subscript) (place : Place) (depth : ℕ) 
     (λ ws. value_word (operation_name place.operations) ∷ sign_word signs.Equal ∷ plain_word (codes "affine.load") ∷ value_word (name_at place from)
     ∷ sign_word signs.OpenSquare ∷ (subscript_words (name_at place counter) at ++ (sign_word signs.CloseSquare
     ∷ (mark_words (codes "affvec.of") place.number ++ (sign_word signs.Colon ∷ (type_words (type_at place from) ++ ws))))))
-unfolding own_form is_silent load_line joined access
+unfolding own_form is_silent joined names table before_regions behind_seen form_line form_end first_word parts_pieces part_pieces
 load_said from counter at place depth all =
     operation_said (written_layer (codes "affine.load") place (from ∷ subscript_values counter at) (next_name place) (element ∷ [])
-    (map_entry (codes "map") (subscript_map at) ∷ []) (mark (codes "affvec.of") place.number) []) own.Load depth refl refl
+    (map_entry (codes "map") (subscript_map at) ∷ []) (mark (codes "affvec.of") place.number) []) (own.Row _) depth refl refl
     (also (results_said (operation_name place.operations) (plain_operation place.operations))
-    (also (also (also (also (word_said (codes "affine.load")) (access_said from counter at place.number place all))
-    (first_type_said (type_at place from) (map (λ v. Some (type_of (type_at place v))) (subscript_values counter at)))) none) none))
+    (also (also (also (token_said kinds.Word (codes "affine.load"))
+    (also (led lead.Blank (access_said from counter at place all))
+    (also (led lead.Nothing (marks_said (codes "affvec.of") place.number))
+    (also (led lead.Colon (first_type_said (type_at place from) _)) none)))) none) none))
 
 store_said : (stored into counter : ℕ) (at : Subscript) (place : Place) (depth : ℕ) → HasPlain place
     → Says (node_line forms.Named depth (roll-Node (written_layer (codes "affine.store") place (stored ∷ into ∷ subscript_values counter at) [] []
@@ -160,15 +165,16 @@ store_said : (stored into counter : ℕ) (at : Subscript) (place : Place) (depth
     (λ ws. plain_word (codes "affine.store") ∷ value_word (name_at place stored) ∷ sign_word signs.Comma ∷ value_word (name_at place into)
     ∷ sign_word signs.OpenSquare ∷ (subscript_words (name_at place counter) at ++ (sign_word signs.CloseSquare
     ∷ (mark_words (codes "affvec.of") place.number ++ (sign_word signs.Colon ∷ (type_words (type_at place into) ++ ws))))))
-unfolding own_form is_silent store_line stored_value results_before joined access
+unfolding own_form is_silent results_before joined first_value names table before_regions behind_seen form_line form_end first_word parts_pieces part_pieces
 store_said stored into counter at place depth all =
     operation_said (written_layer (codes "affine.store") place (stored ∷ into ∷ subscript_values counter at) [] []
-    (map_entry (codes "map") (subscript_map at) ∷ []) (mark (codes "affvec.of") place.number) []) own.Store depth refl refl
+    (map_entry (codes "map") (subscript_map at) ∷ []) (mark (codes "affvec.of") place.number) []) (own.Row _) depth refl refl
     (also none
-    (also (also (also (also (also (word_said (codes "affine.store"))
-    (also (value_said (name_at place stored) (all stored)) (also (sign_said signs.Comma) space_said)))
-    (access_said into counter at place.number place all))
-    (first_type_said (type_at place into) (map (λ v. Some (type_of (type_at place v))) (subscript_values counter at)))) none) none))
+    (also (also (also (token_said kinds.Word (codes "affine.store"))
+    (also (led lead.Blank (value_said (name_at place stored) (all stored)))
+    (also (led lead.Comma (access_said into counter at place all))
+    (also (led lead.Nothing (marks_said (codes "affvec.of") place.number))
+    (also (led lead.Colon (first_type_said (type_at place into) _)) none))))) none) none))
 
 -- ---- lines
 line_said : (counter : ℕ) (line : Line) (place : Place) (depth : ℕ) → HasPlain place

@@ -6,7 +6,9 @@ use Rattle.av_lex.specs.declared.token.Kind.TheVariants as kinds
 use Rattle.av_lex.specs.declared.token.Sign.TheVariants as signs
 use Rattle.av_ir.specs.declared.ty.Elem.TheVariants.{Index}
 use Rattle.av_ir.specs.declared.ty.Ty.TheVariants.{Scalar}
+use Rattle.av_tree.specs.declared.attribute.Attr.{Attr, out-Attr, out-roll-Attr}
 use Rattle.av_tree.specs.declared.attribute.Attr.TheVariants as attr
+use Rattle.av_tree.specs.declared.attribute.Attr.TheOpen as open_attr
 use Rattle.av_tree.specs.declared.attribute.Named.{Named}
 use Rattle.av_tree.specs.declared.node.Node.{Node, Node-F, roll-Node}
 use Rattle.av_tree.specs.declared.node.Body.{Body, Body-F, roll-Body, out-roll-Body}
@@ -14,19 +16,22 @@ use Rattle.av_tree.specs.declared.node.BodyArg.{BodyArg}
 use Rattle.av_tree.specs.declared.written.ExprText.{out-ExprText, out-roll-ExprText}
 use Rattle.av_tree.specs.declared.written.ExprText.TheVariants.{rolls-Const}
 use Rattle.av_tree.specs.declared.written.ExprText.TheOpen as open_expr
-use Rattle.av_tree.specs.declared.written.MapText.{MapText}
 use Rattle.av_tree.specs.declared.written.TypeText.{TypeText}
 use Rattle.av_tree.specs.declared.written.TypeText.TheVariants as ty
 use Rattle.av_printer.specs.declared.form.Form.TheVariants as forms
 use Rattle.av_printer.specs.declared.named.NamedForm.TheVariants as own
-use Rattle.av_printer.specs.Pieces.{Piece, space, sign, plain, spaced, new_line, commas, behind, joined}
+use Rattle.av_printer.specs.Pieces.{Piece, space, sign, plain, new_line, commas, behind, joined}
 use Rattle.av_printer.specs.Expressions.{number, single_bound, single_bound_of, constant_bound, bound_by}
 use Rattle.av_printer.specs.Types.{type_pieces}
 use Rattle.av_printer.specs.OwnForms.{own_form, own_line}
-use Rattle.av_printer.specs.Operations.{Head, results_before, property, map_of, step_of, text_of, results_of, results_behind, function_name, attributes_word, marks_behind, function_line, argument, arguments_pieces, values_behind, variable, bound_if_any, step_behind, carried_behind, bounds_between, loop_start, loop_with, loop_line}
+use Rattle.av_printer.specs.Parts.{before_regions, behind_seen, form_line, form_end, first_word, parts_pieces, part_pieces, bound_in, bound_of}
+use Rattle.av_dialects.specs.declared.item.Item.TheVariants as item
+use Rattle.av_dialects.specs.declared.item.Lead.TheVariants as lead
+use Rattle.av_dialects.specs.Rows.{Part, names, forms as table}
+use Rattle.av_printer.specs.Operations.{Head, results_before, property, step_of, text_of, results_of, results_behind, function_name, attributes_word, marks_behind, function_line, argument, arguments_pieces, values_behind, variable, step_behind, carried_behind}
 use Rattle.av_printer.specs.Spelling.{is_silent, is_yield, node_line, own_body, pieces_of}
 use Rattle.av_printer.proofs.NodeSteps.{own-of}
-use Rattle.av_printer.proofs.OperationSteps.{map_of-some, step-some, text-some, results_of-some, results-func}
+use Rattle.av_printer.proofs.OperationSteps.{step-some, text-some, results_of-some, results-func}
 use Rattle.av_print_laws.specs.Spacing.{words_of}
 use Rattle.av_totree.specs.Constants.{signed_low}
 use Rattle.av_totree.specs.Names.{argument_name, operation_name}
@@ -38,8 +43,9 @@ use Rattle.av_program_laws.specs.WrittenTrees.{entry, number_of, map_entry, boun
 use Rattle.av_read_laws.specs.Making.{Word}
 use Rattle.av_output_laws.proofs.Parts.{sign_word, number_words, mark_words}
 use Rattle.av_output_laws.proofs.PlainNames.{HasPlain, plain-inside, plain-step, plain-buffers, no_names}
-use Rattle.av_output_laws.proofs.Saying.{Says, none, also, said_as, saying, all_said, token_said, sign_said, space_said, spaced_said, new_line_said, number_said}
+use Rattle.av_output_laws.proofs.Saying.{Says, none, also, said_as, saying, all_said, token_said, sign_said, space_said, new_line_said, number_said}
 use Rattle.av_output_laws.proofs.SaidParts.{marks_said, property_first, property_next}
+use Rattle.av_output_laws.proofs.SaidForms.{led, without_operands}
 use Rattle.av_output_laws.proofs.SaidLines.{head_at, whole_is, operation_said, written_layer, constant_said, lines_said}
 use Rattle.av_output_laws.proofs.ProgramWords.{value_word, plain_word, lines_words, step_words, steps_words, argument_words, more_arguments_words, arguments_words, function_words, program_words}
 
@@ -54,31 +60,41 @@ body_said depth args nodes said =
     (also (also (also (also space_said (sign_said signs.OpenCurly)) said) (new_line_said depth)) (sign_said signs.CloseCurly))
 
 -- ---- loops
-const_bound : (lower : Bool) (z : ℤ) → bound_if_any lower (Some (bound_map z)) [] ≡ number z
-unfolding bound_if_any bound_by single_bound constant_bound
-const_bound lower z = ap (single_bound_of (bound_map z) []) (ap out-ExprText (sym (rolls-Const z)) ∙ out-roll-ExprText (open_expr.Const z))
+-- a bound of one number
+bound_said : (lower : Bool) (z : ℤ) (o : Option Attr) → o ≡ Some (attr.Map (bound_map z)) → Says (bound_of lower o []) (λ ws. number_words z ++ ws)
+unfolding bound_of bound_by single_bound constant_bound
+bound_said lower z o is =
+    said_as (ap (λ (o : Option Attr). bound_of lower o []) is
+    ∙ ap (bound_in lower []) (ap out-Attr (sym (attr.rolls-Map (bound_map z))) ∙ out-roll-Attr (open_attr.Map (bound_map z)))
+    ∙ ap (single_bound_of (bound_map z) []) (ap out-ExprText (sym (rolls-Const z)) ∙ out-roll-ExprText (open_expr.Const z)))
+    (number_said z)
 
 module _ (lower upper : ℤ) where
   abbrev props : List Named
   props = loop_properties lower upper
 
-  lower_there : map_of (property props (codes "lowerBoundMap")) ≡ Some (bound_map lower)
+  lower_there : property props (codes "lowerBoundMap") ≡ Some (attr.Map (bound_map lower))
   lower_there =
-      ap map_of (property_next (codes "operandSegmentSizes") (codes "lowerBoundMap") _ _ refl
+      property_next (codes "operandSegmentSizes") (codes "lowerBoundMap") _ _ refl
       ∙ property_next (codes "step") (codes "lowerBoundMap") _ _ refl
-      ∙ property_first (codes "lowerBoundMap") (attr.Map (bound_map lower)) _ refl) ∙ map_of-some (bound_map lower)
+      ∙ property_first (codes "lowerBoundMap") (attr.Map (bound_map lower)) _ refl
 
-  upper_there : map_of (property props (codes "upperBoundMap")) ≡ Some (bound_map upper)
+  upper_there : property props (codes "upperBoundMap") ≡ Some (attr.Map (bound_map upper))
   upper_there =
-      ap map_of (property_next (codes "operandSegmentSizes") (codes "upperBoundMap") _ _ refl
+      property_next (codes "operandSegmentSizes") (codes "upperBoundMap") _ _ refl
       ∙ property_next (codes "step") (codes "upperBoundMap") _ _ refl
       ∙ property_next (codes "lowerBoundMap") (codes "upperBoundMap") _ _ refl
-      ∙ property_first (codes "upperBoundMap") (attr.Map (bound_map upper)) _ refl) ∙ map_of-some (bound_map upper)
+      ∙ property_first (codes "upperBoundMap") (attr.Map (bound_map upper)) _ refl
 
   step_there : step_of (property props (codes "step")) ≡ pos 1
   step_there =
       ap step_of (property_next (codes "operandSegmentSizes") (codes "step") _ _ refl
       ∙ property_first (codes "step") (number_of (codes "index") (pos 1)) _ refl) ∙ step-some (pos 1) (ty.Scalar (codes "index"))
+
+  -- a step of 1 isn't written
+  unit_step_said : Says (step_behind (step_of (property props (codes "step")))) (λ ws. ws)
+  unfolding step_behind
+  unit_step_said = said_as (ap step_behind step_there) none
 
   abbrev loop_head : List BodyArg → ℕ → Head
   loop_head args loop = record {
@@ -92,30 +108,20 @@ module _ (lower upper : ℤ) where
     arguments = args;
   }
 
+  abbrev loop_parts : List Part
+  loop_parts = (lead.Blank, item.Counter) ∷ (lead.Equal, item.LowerBound) ∷ (lead.To, item.UpperBound) ∷ (lead.Nothing, item.Step) ∷ (lead.Nothing, item.Carried) ∷ []
+
   -- what stands before the region
-  start_is : (args : List BodyArg) (loop : ℕ) → loop_line (loop_head args loop)
-      ≡ loop_start args ++ (number lower ++ spaced (plain (codes "to")) ++ number upper) ++ [] ++ []
-  unfolding loop_line loop_with bounds_between step_behind carried_behind
-  start_is args loop =
-      let start = λ (l u : Option MapText) (step : ℤ). loop_with l u step (loop_head args loop) in
-      ap (λ l. start l (map_of (property props (codes "upperBoundMap"))) (step_of (property props (codes "step")))) lower_there
-      ∙ ap (λ u. start (Some (bound_map lower)) u (step_of (property props (codes "step")))) upper_there
-      ∙ ap (start (Some (bound_map lower)) (Some (bound_map upper))) step_there
-      ∙ ap (λ l. loop_start args ++ (l ++ spaced (plain (codes "to")) ++ bound_if_any false (Some (bound_map upper)) []) ++ [] ++ []) (const_bound true lower)
-      ∙ ap (λ u. loop_start args ++ (number lower ++ spaced (plain (codes "to")) ++ u) ++ [] ++ []) (const_bound false upper)
-
-  spaced_word_said : Says (spaced (plain (codes "to"))) (λ ws. plain_word (codes "to") ∷ ws)
-  spaced_word_said = also (also space_said (token_said kinds.Word (codes "to"))) space_said
-
-  loop_start_said : (arg : BodyArg) → Says (loop_start (arg ∷ [])) (λ ws. plain_word (codes "affine.for") ∷ value_word arg.name ∷ sign_word signs.Equal ∷ ws)
-  unfolding loop_start variable
-  loop_start_said arg =
-      also (also (also (token_said kinds.Word (codes "affine.for")) space_said) (token_said kinds.ValId arg.name)) (spaced_said signs.Equal)
-
-  start_said : (arg : BodyArg) → Says (loop_start (arg ∷ []) ++ (number lower ++ spaced (plain (codes "to")) ++ number upper) ++ [] ++ [])
+  start_said : (arg : BodyArg) (loop : ℕ) → Says (plain (codes "affine.for") ++ parts_pieces (loop_head (arg ∷ []) loop) loop_parts [])
       (λ ws. plain_word (codes "affine.for") ∷ value_word arg.name ∷ sign_word signs.Equal ∷ (number_words lower ++ (plain_word (codes "to") ∷ (number_words upper ++ ws))))
-  start_said arg =
-      also (also (also (loop_start_said arg) (also (also (number_said lower) spaced_word_said) (number_said upper))) none) none
+  unfolding part_pieces variable carried_behind
+  start_said arg loop =
+      also (token_said kinds.Word (codes "affine.for"))
+      (said_as (without_operands (loop_head (arg ∷ []) loop) loop_parts)
+      (also (led lead.Blank (token_said kinds.ValId arg.name))
+      (also (led lead.Equal (bound_said true lower _ lower_there))
+      (also (led lead.To (bound_said false upper _ upper_there))
+      (also (led lead.Nothing unit_step_said) (also (led lead.Nothing none) none))))))
 
   loop_said : (nodes : List Node) (place : Place) (depth : ℕ) {f : List Word → List Word}
       → Says (joined (map (node_line forms.Named (depth + 1)) nodes)) f
@@ -123,14 +129,15 @@ module _ (lower upper : ℤ) where
       (λ ws. plain_word (codes "affine.for") ∷ value_word (argument_name place.arguments) ∷ sign_word signs.Equal
       ∷ (number_words lower ++ (plain_word (codes "to") ∷ (number_words upper
       ++ (sign_word signs.OpenCurly ∷ f (sign_word signs.CloseCurly ∷ (mark_words (codes "affvec.loop") place.loops ++ ws)))))))
-  unfolding own_form is_silent is_yield results_before joined loop_body
+  unfolding own_form is_silent is_yield results_before joined loop_body names table before_regions behind_seen form_line form_end first_word parts_pieces part_pieces
   loop_said nodes place depth said =
       let arg : BodyArg = written.argument (argument_name place.arguments) (Scalar Index) in
-      operation_said (written_layer (codes "affine.for") place [] [] [] props (mark (codes "affvec.loop") place.loops) (loop_body nodes place ∷ [])) own.Loop depth refl refl
+      operation_said (written_layer (codes "affine.for") place [] [] [] props (mark (codes "affvec.loop") place.loops) (loop_body nodes place ∷ [])) (own.Row _) depth refl refl
       (also none
-      (also (also (said_as (ap (λ (b : Body-F Body Node). loop_line (loop_head b.args place.loops)) (out-roll-Body _) ∙ start_is (arg ∷ []) place.loops) (start_said arg))
+      (also (also (said_as (ap (λ (b : Body-F Body Node). plain (codes "affine.for") ++ parts_pieces (loop_head b.args place.loops) loop_parts []) (out-roll-Body _))
+      (start_said arg place.loops))
       (also (body_said depth (arg ∷ []) nodes said) none))
-      (marks_said (codes "affvec.loop") place.loops)))
+      (also (led lead.Nothing (marks_said (codes "affvec.loop") place.loops)) none)))
 
 -- ---- steps
 step_said : (step : Step) (place : Place) (depth : ℕ) → HasPlain place → Says (node_line forms.Named depth (step_node step place)) (λ ws. step_words step place ++ ws)
@@ -150,10 +157,10 @@ step_said (counted lower upper lines) place depth all =
     (loop_said lower upper (line_nodes (next place) lines (inside place)) place depth (lines_said (next place) lines (inside place) (depth + 1) (plain-inside place all)))
 
 return_said : (place : Place) (depth : ℕ) → Says (node_line forms.Named depth (end_node (codes "func.return") place)) (λ ws. plain_word (codes "return") ∷ ws)
-unfolding end_node node own_form is_silent is_yield results_before values_behind joined
+unfolding end_node node own_form is_silent is_yield results_before values_behind joined names table before_regions behind_seen form_line form_end first_word parts_pieces part_pieces
 return_said place depth =
-    operation_said (written_layer (codes "func.return") place [] [] [] [] [] []) own.Return depth refl refl
-    (also none (also (also (also (token_said kinds.Word (codes "return")) none) none) none))
+    operation_said (written_layer (codes "func.return") place [] [] [] [] [] []) (own.Row _) depth refl refl
+    (also none (also (also (also (token_said kinds.Word (codes "return")) (also (led lead.Nothing none) none)) none) none))
 
 steps_said : (steps : List Step) (place : Place) (depth : ℕ) → HasPlain place
     → Says (joined (map (node_line forms.Named depth) (step_nodes steps place))) (λ ws. steps_words steps place ++ ws)

@@ -15,7 +15,8 @@ use Rattle.av_printer.specs.Expressions.{Part, number, value, same, placed, leaf
 use Rattle.av_printer.specs.Types.{type_pieces}
 use Rattle.av_printer.specs.Attributes.{typed, assigned, attr_of, entry_pieces, or_nothing}
 use Rattle.av_printer.specs.Dictionaries.{inserted, ordered_onto}
-use Rattle.av_printer.specs.Operations.{property, results_before, known_type, first_type, marks_behind, constant_value}
+use Rattle.av_printer.specs.Operations.{property, results_before, known_type, marks_behind, constant_value}
+use Rattle.av_printer.specs.Parts.{first_known}
 use Rattle.av_printer.proofs.ExpressionSteps.{of-name, of-const, of-add, of-sub}
 use Rattle.av_printer.proofs.AttributeSteps.{attr-number, entry-opened}
 use Rattle.av_print_laws.proofs.TypeParts.{type-scalar}
@@ -33,9 +34,9 @@ pub results_said : (text : List ℕ) → IsPlainName text → Says (results_befo
 unfolding results_before commas behind
 results_said text h = also (also (result_said text h) none) (spaced_said signs.Equal)
 
-pub first_type_said : (t : Ty) (others : List (Option TypeText)) → Says (first_type (Some (type_of t) ∷ others)) (λ ws. sign_word signs.Colon ∷ (type_words t ++ ws))
-unfolding first_type known_type
-first_type_said t others = also (spaced_said signs.Colon) (all_said (type_pieces (type_of t)))
+pub first_type_said : (t : Ty) (others : List (Option TypeText)) → Says (first_known (Some (type_of t) ∷ others)) (λ ws. type_words t ++ ws)
+unfolding first_known known_type
+first_type_said t others = all_said (type_pieces (type_of t))
 
 scalar_said : (text : List ℕ) → Says (type_pieces (ty.Scalar text)) (λ ws. plain_word text ∷ ws)
 scalar_said text = said_as (type-scalar text) (token_said kinds.Word text)

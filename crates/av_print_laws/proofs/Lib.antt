@@ -11,9 +11,9 @@ pub mod AttrParts
 pub mod InOrder
 pub mod Said
 pub mod LineParts
-pub mod Names
 pub mod Heads
-pub mod PatternParts
+pub mod FormParts
+pub mod Names
 pub mod Lines
 pub mod NodeParts
 pub mod EachForm

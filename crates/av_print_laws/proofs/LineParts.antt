@@ -1,5 +1,5 @@
 -- The parts of lines of operations that were read are spaced.
-use Rattle.std.proofs.Common.{◌≡◌, ℕ, ℤ, pos, Bool, true, false, List, [], ◌∷◌, ◌++◌, drop, map, Option, Some, None, refl, codes, arith}
+use Rattle.std.proofs.Common.{◌≡◌, ℕ, ℤ, pos, true, List, [], ◌∷◌, ◌++◌, drop, map, Option, Some, None, refl, codes, arith}
 use Rattle.std.specs.Ordering.{int_eq}
 use Rattle.std.specs.List.{All}
 use Rattle.std.proofs.lemmas.List.Elements.{All-head, All-tail, All-drop}
@@ -25,7 +25,7 @@ use Rattle.av_print_laws.proofs.Parts.{Free, Sound, Divides, Keeps, AllOf, Tail,
 use Rattle.av_print_laws.proofs.Words.{is_word}
 use Rattle.av_print_laws.proofs.Firsts.{divides-in_round, divides-spaced}
 use Rattle.av_print_laws.proofs.TypeParts.{sound-type, sound-types, sound-one_or_several}
-use Rattle.av_print_laws.proofs.ExprParts.{either, free-colon_alone, sound-integer, sound-value, sound-subscripts, map-uses-law}
+use Rattle.av_print_laws.proofs.ExprParts.{either, free-colon_alone, sound-integer, sound-value, sound-subscripts}
 use Rattle.av_print_laws.proofs.AttrParts.{free-equal, attributes-law, dictionaries-law}
 use Rattle.av_print_laws.proofs.Said.{IsReadIf, IsReadMapIf}
 
@@ -37,14 +37,6 @@ func_word = is_word (codes "func.func") refl
 attributes_word : IsWord kinds.Word (codes "attributes")
 unfolding in_class
 attributes_word = is_word (codes "attributes") refl
-
-for_word : IsWord kinds.Word (codes "affine.for")
-unfolding in_class
-for_word = is_word (codes "affine.for") refl
-
-to_word : IsWord kinds.Word (codes "to")
-unfolding in_class
-to_word = is_word (codes "to") refl
 
 step_word : IsWord kinds.Word (codes "step")
 unfolding in_class
@@ -143,14 +135,6 @@ pub free-known_in_round : (types : List (Option TypeText)) → All IsReadTypeIf 
 unfolding o.known_in_round
 free-known_in_round types h = free-in_round (o.known_types types) (sound-known_types types h)
 
-pub tail-first_type : (types : List (Option TypeText)) → All IsReadTypeIf types → Tail (o.first_type types)
-unfolding o.first_type
-tail-first_type [] h = tail-none
-tail-first_type (ty ∷ types) h =
-    tail-divides (spaced (sign Colon) ++ o.known_type ty)
-    (free-sound (spaced (sign Colon)) (o.known_type ty) free-between_colon (sound-known_type ty (All-head IsReadTypeIf ty types h)))
-    (divides-append (spaced (sign Colon)) (o.known_type ty) (divides-spaced (sign Colon)))
-
 pub tail-values_behind : (values : List (List ℕ)) (types : List (Option TypeText)) → All IsValue values → All IsReadTypeIf types
     → Tail (o.values_behind values types)
 unfolding o.values_behind
@@ -238,29 +222,6 @@ pub sound-variable : (args : List BodyArg) → All IsReadArg args → Sound (o.v
 unfolding o.variable
 sound-variable [] h = sound-none
 sound-variable (a ∷ args) h = sound-name a.name (All-head IsReadArg a args h).0
-
-pub free-loop_start : (args : List BodyArg) → All IsReadArg args → Free (o.loop_start args)
-unfolding o.loop_start
-free-loop_start args h =
-    sound-free (plain (codes "affine.for") ++ space ++ o.variable args) (spaced (sign Equal))
-    (free-sound (plain (codes "affine.for") ++ space) (o.variable args) (free-word (codes "affine.for") for_word) (sound-variable args h))
-    free-equal (divides-spaced (sign Equal))
-
-sound-bound_if_any : (lower : Bool) (m : Option MapText) (values : List (List ℕ)) → IsReadMapIf m → All IsValue values → Sound (o.bound_if_any lower m values)
-unfolding o.bound_if_any
-sound-bound_if_any lower None values h v rest a = sound-none rest a
-sound-bound_if_any lower (Some m) values h v rest a = (map-uses-law m values h v rest a).2 lower
-
-pub sound-bounds_between : (lower : Option MapText) (of_lower : List (List ℕ)) (upper : Option MapText) (of_upper : List (List ℕ))
-    → IsReadMapIf lower → All IsValue of_lower → IsReadMapIf upper → All IsValue of_upper → Sound (o.bounds_between lower of_lower upper of_upper)
-unfolding o.bounds_between
-sound-bounds_between lower of_lower upper of_upper h v k w =
-    let first : List Piece = o.bound_if_any true lower of_lower in
-    let to : List Piece = spaced (plain (codes "to")) in
-    free-sound (first ++ to) (o.bound_if_any false upper of_upper)
-    (sound-free first to (sound-bound_if_any true lower of_lower h v)
-    (free-spaced (plain (codes "to")) (sound-word (codes "to") to_word)) (divides-spaced (plain (codes "to"))))
-    (sound-bound_if_any false upper of_upper k w)
 
 written_step : (z : ℤ) → IsShortInteger z → Tail (space ++ plain (codes "step") ++ space ++ number z)
 written_step z h =

@@ -412,3 +412,6 @@ pub tail-joined : (several : List (List Piece)) → AllOf Tail several → Tail 
 unfolding joined AllOf
 tail-joined [] h = tail-none
 tail-joined (first ∷ others) h = tail-append first (joined others) h.0 (tail-joined others h.1)
+
+pub tail-behind : (others : List (List Piece)) → AllOf Sound others → Tail (behind others)
+tail-behind others h = record { sound = sound-behind others h; keeps = keeps-behind others }

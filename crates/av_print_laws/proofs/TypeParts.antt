@@ -1,6 +1,8 @@
 -- The pieces of types that were read are spaced.
-use Rattle.std.proofs.Common.{◌≡◌, ℕ, List, [], ◌∷◌, ◌++◌, map, Option, Some, None, sym, ◌∙◌, ap, subst, codes}
+use Rattle.std.proofs.Common.{◌≡◌, ℕ, Bool, true, false, List, [], ◌∷◌, ◌++◌, map, Option, Some, None, sym, ◌∙◌, ap, subst, codes}
+use Rattle.std.specs.Prelude.{if◌then◌else◌}
 use Rattle.std.specs.List.{All}
+use Rattle.std.proofs.lemmas.List.{append-nil}
 use Rattle.av_lex.specs.declared.token.Kind.TheVariants as kinds
 use Rattle.av_lex.specs.declared.token.Sign.TheVariants.{OpenAngle, CloseAngle, Arrow}
 use Rattle.av_tree.specs.declared.written.SizeText.{SizeText}
@@ -12,7 +14,7 @@ use Rattle.av_tree.specs.declared.written.TypeText.{TypeText, Scalar, MemRef, Ve
 use Rattle.av_tree.specs.declared.written.TypeText.TheVariants.{rolls-Scalar, rolls-MemRef, rolls-Vector, rolls-Func}
 use Rattle.av_tree.specs.declared.written.TypeText.TheOpen as open_type
 use Rattle.av_printer.specs.Pieces.{Piece, sign, plain, comma, colon, spaced, commas, joined, in_round, in_square}
-use Rattle.av_printer.specs.Types.{size_alone, size_x, dim_x, layout_behind, strides_of, offset_of, one_or_several, type_step, type_pieces}
+use Rattle.av_printer.specs.Types.{size_alone, size_x, dim_x, layout_behind, strides_of, is_zero, written_offset, offset_of, one_or_several, type_step, type_pieces}
 use Rattle.av_print_laws.specs.Spacing.{IsWord}
 use Rattle.av_print_laws.specs.ReadTypes.{IsShortSize, IsShortDim, IsShortLayout, IsReadType, AreReadTypes, scalar, mem_ref, vector, func, none, more}
 use Rattle.av_print_laws.specs.WrittenLaws.{TypesLaw}
@@ -78,27 +80,35 @@ divides-strides ss =
     divides-append (comma ++ plain (codes "strided") ++ sign OpenAngle) (in_square (commas (map size_alone ss)))
     (divides-append (comma ++ plain (codes "strided")) (sign OpenAngle) (divides-append comma (plain (codes "strided")) divides-comma))
 
-sound-offset : (s : SizeText) → IsShortSize s → Sound (offset_of s)
-unfolding offset_of
+sound-offset : (s : SizeText) → IsShortSize s → Sound (written_offset s)
+unfolding written_offset
 sound-offset s h =
     free-sound (comma ++ plain (codes "offset") ++ colon) (size_alone s)
     (sound-free (comma ++ plain (codes "offset")) colon
     (free-sound comma (plain (codes "offset")) free-comma (sound-word (codes "offset") offset_word)) free-colon divides-colon)
     (sound-size s h)
 
-divides-offset : (s : SizeText) → Divides (offset_of s)
-unfolding offset_of
+divides-offset : (s : SizeText) → Divides (written_offset s)
+unfolding written_offset
 divides-offset s =
     divides-append (comma ++ plain (codes "offset") ++ colon) (size_alone s)
     (divides-append (comma ++ plain (codes "offset")) colon (divides-append comma (plain (codes "offset")) divides-comma))
 
+-- an offset that may be left out, and the end of the layout
+sound-end : (is_left_out : Bool) (strides offset : List Piece) → Sound strides → Sound offset → Divides offset
+    → Sound (strides ++ (if is_left_out then [] else offset) ++ sign CloseAngle)
+sound-end true strides offset s o d =
+    subst (λ (ps : List Piece). Sound (ps ++ sign CloseAngle)) (sym (append-nil strides))
+    (sound-divides strides (sign CloseAngle) s sound-close_angle divides-close_angle)
+sound-end false strides offset s o d =
+    sound-divides (strides ++ offset) (sign CloseAngle) (sound-divides strides offset s o d) sound-close_angle divides-close_angle
+
 sound-layout : (at : Option LayoutText) → IsShortLayout at → Sound (layout_behind at)
-unfolding layout_behind
+unfolding layout_behind offset_of
 sound-layout None h = sound-none
 sound-layout (Some l) h =
-    sound-divides (strides_of l.strides ++ offset_of l.offset) (sign CloseAngle)
-    (sound-divides (strides_of l.strides) (offset_of l.offset) (sound-strides l.strides h.0) (sound-offset l.offset h.1) (divides-offset l.offset))
-    sound-close_angle divides-close_angle
+    sound-end (is_zero l.offset) (strides_of l.strides) (written_offset l.offset) (sound-strides l.strides h.0) (sound-offset l.offset h.1)
+    (divides-offset l.offset)
 
 keeps-layout : (at : Option LayoutText) → Keeps (layout_behind at)
 unfolding layout_behind

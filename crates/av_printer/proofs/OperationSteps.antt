@@ -16,11 +16,11 @@ use Rattle.av_tree.specs.declared.node.Body.{Body, out-Body}
 use Rattle.av_tree.specs.declared.written.MapText.{MapText}
 use Rattle.av_tree.specs.declared.attribute.Named.{Named, out-Named}
 use Rattle.av_tree.specs.declared.node.BodyArg.{BodyArg}
-use Rattle.av_printer.specs.Pieces.{spelt, space, token, sign, plain, comma, comma_after, spaced, commas}
+use Rattle.av_printer.specs.Pieces.{spelt, space, token, sign, plain, comma_after, spaced, commas}
 use Rattle.av_printer.specs.Types.{type_pieces, one_or_several}
 use Rattle.av_printer.specs.Expressions.{value, same}
 use Rattle.av_printer.specs.Dictionaries.{dictionary}
-use Rattle.av_printer.specs.Operations.{first_of, arguments_of, property, values_pieces, known_type, known_types, known_in_round, first_type, properties_behind, marks_behind, text_in, text_of, map_in, map_of, number_in, step_of, results_in_type, results_of_type, results_in, results_of, results_behind, attributes_word, values_behind, variable, carried_pair, carried, carried_in_round, carried_behind, subscripts_if_any, buffer, stored_value}
+use Rattle.av_printer.specs.Operations.{first_of, arguments_of, property, values_pieces, known_type, known_types, known_in_round, properties_behind, marks_behind, text_in, text_of, map_in, map_of, number_in, step_of, results_in_type, results_of_type, results_in, results_of, results_behind, attributes_word, values_behind, variable, carried_pair, carried, carried_in_round, carried_behind, subscripts_if_any, buffer}
 use Rattle.av_printer.proofs.Steps.{spelt-append, commas-push}
 
 pub properties-none : (es : List Named) → length es ≡ 0 → properties_behind es ≡ []
@@ -84,17 +84,6 @@ unfolding values_behind
 values-some [] ts h = absurd (omega arith)
 values-some (v ∷ vs) ts h = refl
 
-pub first_type-none : (ts : List (Option TypeText)) → length ts ≡ 0 → first_type ts ≡ []
-unfolding first_type
-first_type-none [] h = refl
-first_type-none (t ∷ ts) h = absurd (omega arith)
-
-pub first_type-some : (ts : List (Option TypeText)) (t : Option TypeText) → 1 ≤ length ts → t ≡ get_or ts 0 t
-    → first_type ts ≡ spaced (sign Colon) ++ known_type t
-unfolding first_type
-first_type-some [] t h e = absurd (omega arith)
-first_type-some (x ∷ ts) t h e = ap (λ y. spaced (sign Colon) ++ known_type y) (sym e)
-
 pub variable-none : (args : List BodyArg) → length args ≡ 0 → variable args ≡ []
 unfolding variable
 variable-none [] h = refl
@@ -115,16 +104,6 @@ pub carried-some : (args : List BodyArg) (vs : List (List ℕ)) (ts : List (Opti
 unfolding carried_behind
 carried-some args [] ts h = absurd (omega arith)
 carried-some args (v ∷ vs) ts h = refl
-
-pub stored-none : (vs : List (List ℕ)) → length vs ≡ 0 → stored_value vs ≡ []
-unfolding stored_value
-stored-none [] h = refl
-stored-none (v ∷ vs) h = absurd (omega arith)
-
-pub stored-some : (vs : List (List ℕ)) (v : List ℕ) → 1 ≤ length vs → v ≡ get_or vs 0 v → stored_value vs ≡ value v ++ comma
-unfolding stored_value
-stored-some [] v h e = absurd (omega arith)
-stored-some (x ∷ vs) v h e = ap (λ y. value y ++ comma) (sym e)
 
 pub buffer-none : (m : Option MapText) (vs : List (List ℕ)) → length vs ≡ 0 → buffer m vs ≡ []
 unfolding buffer
@@ -323,7 +302,7 @@ pub ruleset dictionary_steps = (properties-none, properties-some, marks-none, ma
 
 pub ruleset known_steps = (known-none, known-some)
 
-pub ruleset behind_steps = (results-none, results-some, word-none, word-some, values-none, values-some, first_type-none, first_type-some, variable-none, variable-some, carried-none, carried-some, stored-none, stored-some, buffer-none, buffer-some)
+pub ruleset behind_steps = (results-none, results-some, word-none, word-some, values-none, values-some, variable-none, variable-some, carried-none, carried-some, buffer-none, buffer-some)
 
 pub ruleset property_steps = (property-found, property-on, property-end)
 

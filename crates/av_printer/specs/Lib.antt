@@ -4,7 +4,7 @@ pub mod Expressions
 pub mod Attributes
 pub mod Dictionaries
 pub mod Operations
-pub mod Patterns
+pub mod Parts
 pub mod OwnForms
 pub mod Examples
 pub mod Spelling

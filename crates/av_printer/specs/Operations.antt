@@ -1,5 +1,5 @@
 -- The spelling of operations beside their regions: in a form of their own, and in the form that all have in common.
-use Rattle.std.specs.Prelude.{ℕ, ℤ, pos, ◌+◌, Bool, true, false, List, [], ◌∷◌, ◌++◌, map, length, take, drop, Option, Some, None, if◌then◌else◌, codes}
+use Rattle.std.specs.Prelude.{ℕ, ℤ, pos, List, [], ◌∷◌, ◌++◌, map, drop, Option, Some, None, if◌then◌else◌, codes}
 use Rattle.std.specs.Ordering.{int_eq}
 use Rattle.av_lex.specs.declared.token.Kind.TheVariants as kinds
 use Rattle.av_lex.specs.declared.token.Sign.TheVariants.{OpenAngle, CloseAngle, OpenCurly, CloseCurly, Colon, Equal, Arrow, Question}
@@ -12,9 +12,9 @@ use Rattle.av_tree.specs.declared.attribute.Named.{Named, out-Named}
 use Rattle.av_tree.specs.declared.node.BodyArg.{BodyArg}
 use Rattle.av_tree.specs.declared.node.Node.{Node, out-Node}
 use Rattle.av_tree.specs.declared.node.Body.{Body, out-Body}
-use Rattle.av_printer.specs.Pieces.{Piece, space, token, sign, plain, comma, colon, spaced, commas, in_round}
+use Rattle.av_printer.specs.Pieces.{Piece, space, token, sign, plain, colon, spaced, commas, in_round}
 use Rattle.av_printer.specs.Types.{type_pieces, one_or_several}
-use Rattle.av_printer.specs.Expressions.{number, value, result_name, same, bound, subscripts}
+use Rattle.av_printer.specs.Expressions.{number, value, result_name, same, subscripts}
 use Rattle.av_printer.specs.Attributes.{attribute}
 use Rattle.av_printer.specs.Dictionaries.{dictionary}
 
@@ -83,11 +83,6 @@ known_types types = commas (map known_type types)
 
 unfoldable pub known_in_round : List (Option TypeText) → List Piece
 known_in_round types = in_round (known_types types)
-
--- ` : T`, the first type of several
-unfoldable pub first_type : List (Option TypeText) → List Piece
-first_type [] = []
-first_type (ty ∷ types) = spaced (sign Colon) ++ known_type ty
 
 -- ` {affvec.loop = 0 : i64}`, or nothing where there is no mark
 unfoldable pub marks_behind : List Named → List Piece
@@ -159,37 +154,17 @@ values_behind [] types = []
 values_behind (first ∷ others) types =
     space ++ values_pieces (first ∷ others) ++ spaced (sign Colon) ++ known_types types
 
-abbrev pub return_line : Head → List Piece
-return_line h = plain (codes "return") ++ values_behind h.operands h.in_types
-
-abbrev pub yield_line : Head → List Piece
-yield_line h = plain (codes "affine.yield") ++ values_behind h.operands h.in_types
-
 -- `arith.constant 1 : i32`
 unfoldable pub constant_value : Option Attr → List Piece
 constant_value None = []
 constant_value (Some a) = attribute a
 
-unfoldable pub constant_line : Head → List Piece
-constant_line h = plain (codes "arith.constant") ++ space ++ constant_value (property h.properties (codes "value"))
-
--- `arith.addi %0, %1 : i32`
-unfoldable pub binary_line : Head → List Piece
-binary_line h = plain h.name ++ space ++ values_pieces h.operands ++ first_type h.out_types
-
--- `affine.for %arg1 = 0 to 8 step 2 iter_args(%arg2 = %0) -> (i32)`
+-- the variable of a loop
 unfoldable pub variable : List BodyArg → List Piece
 variable [] = []
 variable (a ∷ args) = token kinds.ValId a.name
 
-abbrev pub operands_of : Option MapText → ℕ
-operands_of None = 0
-operands_of (Some m) = length m.dims + length m.syms
-
-unfoldable pub bound_if_any : Bool → Option MapText → List (List ℕ) → List Piece
-bound_if_any lower None operands = []
-bound_if_any lower (Some m) operands = bound lower m operands
-
+-- ` step 2`, or nothing where it is 1
 unfoldable pub step_behind : ℤ → List Piece
 step_behind z = if int_eq z (pos 1) then [] else space ++ plain (codes "step") ++ space ++ number z
 
@@ -211,32 +186,7 @@ carried_behind args [] types = []
 carried_behind args (first ∷ others) types =
     space ++ plain (codes "iter_args") ++ carried_in_round (drop 1 args) (first ∷ others) ++ spaced (sign Arrow) ++ known_in_round types
 
--- the operands are those of the lower bound, those of the upper bound, and the initial values
-unfoldable pub bounds_between : Option MapText → List (List ℕ) → Option MapText → List (List ℕ) → List Piece
-bounds_between lower of_lower upper of_upper =
-    bound_if_any true lower of_lower ++ spaced (plain (codes "to")) ++ bound_if_any false upper of_upper
-
-abbrev pub loop_bounds : Option MapText → Option MapText → List (List ℕ) → List Piece
-loop_bounds lower upper operands =
-    bounds_between lower (take (operands_of lower) operands) upper (take (operands_of upper) (drop (operands_of lower) operands))
-
-abbrev pub initial_values : Option MapText → Option MapText → List (List ℕ) → List (List ℕ)
-initial_values lower upper operands = drop (operands_of upper) (drop (operands_of lower) operands)
-
-unfoldable pub loop_start : List BodyArg → List Piece
-loop_start args = plain (codes "affine.for") ++ space ++ variable args ++ spaced (sign Equal)
-
-unfoldable pub loop_with : Option MapText → Option MapText → ℤ → Head → List Piece
-loop_with lower upper step h =
-    loop_start h.arguments ++ loop_bounds lower upper h.operands ++ step_behind step
-    ++ carried_behind h.arguments (initial_values lower upper h.operands) h.out_types
-
-unfoldable pub loop_line : Head → List Piece
-loop_line h =
-    loop_with (map_of (property h.properties (codes "lowerBoundMap"))) (map_of (property h.properties (codes "upperBoundMap")))
-    (step_of (property h.properties (codes "step"))) h
-
--- `%arg0[%arg1 + 1] {affvec.of = 3 : i64}`
+-- `%arg0[%arg1 + 1]`
 unfoldable pub subscripts_if_any : Option MapText → List (List ℕ) → List Piece
 subscripts_if_any None operands = []
 subscripts_if_any (Some m) operands = subscripts m operands
@@ -244,22 +194,6 @@ subscripts_if_any (Some m) operands = subscripts m operands
 unfoldable pub buffer : Option MapText → List (List ℕ) → List Piece
 buffer m [] = []
 buffer m (first ∷ others) = value first ++ subscripts_if_any m others
-
-unfoldable pub access : Head → List (List ℕ) → List Piece
-access h operands = buffer (map_of (property h.properties (codes "map"))) operands ++ marks_behind h.attrs
-
--- `affine.load %arg0[%arg1] : memref<8xi32>`
-unfoldable pub load_line : Head → List Piece
-load_line h = plain (codes "affine.load") ++ space ++ access h h.operands ++ first_type h.in_types
-
--- `affine.store %0, %arg0[%arg1] : memref<8xi32>`
-unfoldable pub stored_value : List (List ℕ) → List Piece
-stored_value [] = []
-stored_value (first ∷ others) = value first ++ comma
-
-unfoldable pub store_line : Head → List Piece
-store_line h =
-    plain (codes "affine.store") ++ space ++ stored_value h.operands ++ access h (drop 1 h.operands) ++ first_type (drop 1 h.in_types)
 
 -- ---- the form that all have in common
 -- ` <{map = ..}>`, or nothing where there is no property

@@ -1,5 +1,5 @@
 -- The spelling of types.
-use Rattle.std.specs.Prelude.{List, [], ◌∷◌, ◌++◌, map, Option, Some, None, codes, decimal}
+use Rattle.std.specs.Prelude.{zero, suc, Bool, true, false, if◌then◌else◌, List, [], ◌∷◌, ◌++◌, map, Option, Some, None, codes, decimal}
 use Rattle.av_lex.specs.declared.token.Kind.TheVariants as kinds
 use Rattle.av_lex.specs.declared.token.Sign.TheVariants.{OpenAngle, CloseAngle, Question, Arrow}
 use Rattle.av_tree.specs.declared.written.SizeText.{SizeText}
@@ -29,8 +29,17 @@ dim_x (dims.Scalable n) = token kinds.ScalX (codes "[" ++ decimal n ++ codes "]x
 unfoldable pub strides_of : List SizeText → List Piece
 strides_of strides = comma ++ plain (codes "strided") ++ sign OpenAngle ++ in_square (commas (map size_alone strides))
 
+unfoldable pub written_offset : SizeText → List Piece
+written_offset offset = comma ++ plain (codes "offset") ++ colon ++ size_alone offset
+
+abbrev pub is_zero : SizeText → Bool
+is_zero (sizes.Fixed zero) = true
+is_zero (sizes.Fixed (suc n)) = false
+is_zero sizes.Dynamic = false
+
+-- an offset of 0 isn't written
 unfoldable pub offset_of : SizeText → List Piece
-offset_of offset = comma ++ plain (codes "offset") ++ colon ++ size_alone offset
+offset_of offset = if is_zero offset then [] else written_offset offset
 
 -- `, strided<[1, ?], offset: 3>`
 unfoldable pub layout_behind : Option LayoutText → List Piece

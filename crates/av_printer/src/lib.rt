@@ -4,7 +4,6 @@
 //! first write, so want of memory leaves a sink as it was.
 #![tactic(auto, using(crate::proofs::Steps::steps))]
 
-mod accesses;
 mod attributes;
 mod dictionaries;
 mod entries;
@@ -13,14 +12,15 @@ mod form;
 mod functions;
 mod generic;
 mod laws;
-mod lines;
 mod loops;
 mod named;
 mod nodes;
+mod operands;
 mod parts;
-mod pattern;
+mod placed_types;
 mod printing;
 mod properties;
+mod shares;
 mod slices;
 mod subscripts;
 mod types;
@@ -30,5 +30,4 @@ pub use form::Form;
 pub use laws::worked_examples;
 pub use named::NamedForm;
 pub use nodes::spell;
-pub use pattern::{Item, Lead, Pattern};
 pub use printing::{PrintFault, print};

@@ -1,70 +1,16 @@
-//! Loops: what stands before their region.
-ghost use Rattle.std.specs.Prelude.{◌≡◌, ◌++◌, Some, take, drop, option_copied, IfOk};
+//! The parts of loops: counters, bounds, steps and carried values.
+ghost use Rattle.std.specs.Prelude.{◌≡◌, ◌++◌, Some, option_copied, IfOk};
 ghost use Rattle.av_printer.specs.Pieces.{spelt};
-ghost use Rattle.av_printer.specs.Operations.{head_of, step_of, variable, loop_start, operands_of, bound_if_any, bounds_between, step_behind, carried_pair, carried_in_round, carried_behind, loop_with, loop_line};
+ghost use Rattle.av_printer.specs.Operations.{step_of, variable, step_behind, carried_pair, carried_in_round, carried_behind};
+ghost use Rattle.av_printer.specs.Parts.{alias_bound, bound_of};
 
-use crate::entries::{arguments, map_of, property};
-use crate::generic::print_known_in_round;
+use crate::generic::{print_known_in_round, print_values_in_round};
 use crate::slices::behind;
 use crate::subscripts::print_bound;
 use crate::writer::Writer;
 use av_affine::Text;
-use av_tree::{Attr, BodyArg, MapText, Node, TypeText};
+use av_tree::{Attr, BodyArg, TypeText};
 use std::alloc::AllocError;
-
-#[tactic(auto, using(crate::proofs::Steps::steps), unfolding(crate::specs::Operations::loop_line))]
-pub(crate) fn print_loop(out: &mut Writer, node: &Node) -> Result<(), AllocError>
-    ensures { IfOk result (λ _. out.new ≡ out.old ++ spelt (loop_line (head_of node.now))) }
-{
-    let properties = node.properties.as_slice();
-    let lower = map_of(property(properties, b"lowerBoundMap"));
-    let upper = map_of(property(properties, b"upperBoundMap"));
-    let step = step_of(property(properties, b"step"));
-    print_loop_with(out, node, lower, upper, step)?;
-    Ok(())
-}
-
-#[tactic(auto, using(crate::proofs::Steps::steps), unfolding(crate::specs::Operations::loop_with))]
-fn print_loop_with(
-    out: &mut Writer,
-    node: &Node,
-    lower: Option<&MapText>,
-    upper: Option<&MapText>,
-    step: i128,
-) -> Result<(), AllocError>
-    ensures { IfOk result (λ _. out.new ≡ out.old ++ spelt (loop_with (option_copied lower.entry) (option_copied upper.entry) step (head_of node.now))) }
-{
-    let (of_lower, others) = split(lower, node.operands.as_slice());
-    let (of_upper, initial) = split(upper, others);
-    let args = arguments(node);
-    print_loop_start(out, args)?;
-    print_loop_bounds(out, lower, of_lower, upper, of_upper)?;
-    print_step(out, step)?;
-    print_carried(out, args, initial, node.out_types.as_slice())?;
-    Ok(())
-}
-
-// The operands of a map, and those after them.
-fn split<'a>(map: Option<&MapText>, operands: &'a [Text]) -> (&'a [Text], &'a [Text])
-    ensures these { result.0.now ≡ take (operands_of (option_copied map.entry)) operands.now }
-    ensures others { result.1.now ≡ drop (operands_of (option_copied map.entry)) operands.now }
-{
-    let count = match map {
-        Some(map) => map.dims.len().saturating_add(map.syms.len()),
-        None => 0,
-    };
-    operands.split_at(count.min(operands.len()))
-}
-
-#[tactic(auto, using(crate::proofs::Steps::steps, crate::proofs::Steps::signs_between), unfolding(crate::specs::Operations::loop_start))]
-fn print_loop_start(out: &mut Writer, args: &[BodyArg]) -> Result<(), AllocError>
-    ensures { IfOk result (λ _. out.new ≡ out.old ++ spelt (loop_start args.now)) }
-{
-    out.push_bytes(b"affine.for ")?;
-    print_variable(out, args)?;
-    out.push_bytes(b" = ")?;
-    Ok(())
-}
 
 #[tactic(auto, using(crate::proofs::Steps::steps, crate::proofs::OperationSteps::behind_steps))]
 pub(crate) fn print_variable(out: &mut Writer, args: &[BodyArg]) -> Result<(), AllocError>
@@ -77,35 +23,66 @@ pub(crate) fn print_variable(out: &mut Writer, args: &[BodyArg]) -> Result<(), A
     Ok(())
 }
 
-#[tactic(auto, using(crate::proofs::Steps::steps, crate::proofs::Steps::signs_between), unfolding(crate::specs::Operations::bounds_between))]
-fn print_loop_bounds(
+/// A bound, lower or upper.
+#[tactic(auto, using(crate::proofs::Steps::steps, crate::proofs::PartSteps::bound_of_steps))]
+pub(crate) fn print_bound_of(
     out: &mut Writer,
-    lower: Option<&MapText>,
-    of_lower: &[Text],
-    upper: Option<&MapText>,
-    of_upper: &[Text],
+    lower: bool,
+    attr: Option<&Attr>,
+    operands: &[Text],
 ) -> Result<(), AllocError>
-    ensures { IfOk result (λ _. out.new ≡ out.old ++ spelt (bounds_between (option_copied lower.entry) of_lower.now (option_copied upper.entry) of_upper.now)) }
+    ensures { IfOk result (λ _. out.new ≡ out.old ++ spelt (bound_of lower (option_copied attr.entry) operands.now)) }
 {
-    print_bound_of(out, true, lower, of_lower)?;
-    out.push_bytes(b" to ")?;
-    print_bound_of(out, false, upper, of_upper)?;
+    match attr {
+        Some(attr) => print_bound_in(out, lower, attr, operands)?,
+        None => {}
+    }
     Ok(())
 }
 
-#[tactic(auto, using(crate::proofs::Steps::steps), unfolding(crate::specs::Operations::bound_if_any))]
-fn print_bound_of(
+// An alias may have several results.
+#[tactic(auto, using(crate::proofs::Steps::steps, crate::proofs::PartSteps::bound_of_steps))]
+fn print_bound_in(
     out: &mut Writer,
     lower: bool,
-    map: Option<&MapText>,
+    attr: &Attr,
     operands: &[Text],
 ) -> Result<(), AllocError>
-    ensures { IfOk result (λ _. out.new ≡ out.old ++ spelt (bound_if_any lower (option_copied map.entry) operands.now)) }
+    ensures { IfOk result (λ _. out.new ≡ out.old ++ spelt (bound_of lower (Some attr.now) operands.now)) }
 {
-    match map {
-        Some(map) => print_bound(out, lower, map, operands)?,
-        None => {}
+    match attr {
+        Attr::Map(map) => print_bound(out, lower, map, operands)?,
+        Attr::AliasUse(name) => print_alias_bound(out, lower, name, operands)?,
+        _ => {}
     }
+    Ok(())
+}
+
+#[tactic(auto, using(crate::proofs::Steps::steps))]
+fn print_alias_bound(
+    out: &mut Writer,
+    lower: bool,
+    name: &Text,
+    operands: &[Text],
+) -> Result<(), AllocError>
+    ensures { IfOk result (λ _. out.new ≡ out.old ++ spelt (alias_bound lower name.now operands.now)) }
+{
+    if lower {
+        out.push_bytes(b"max ")?;
+    } else {
+        out.push_bytes(b"min ")?;
+    }
+    out.push_text(name)?;
+    print_values_in_round(out, operands)?;
+    Ok(())
+}
+
+/// The step, where it isn't 1.
+#[tactic(auto, using(crate::proofs::Steps::steps), unfolding(crate::specs::Operations::step_behind))]
+pub(crate) fn print_step_of(out: &mut Writer, attr: Option<&Attr>) -> Result<(), AllocError>
+    ensures { IfOk result (λ _. out.new ≡ out.old ++ spelt (step_behind (step_of (option_copied attr.entry)))) }
+{
+    print_step(out, step_of(attr))?;
     Ok(())
 }
 

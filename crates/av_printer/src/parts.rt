@@ -1,70 +1,87 @@
 //! The parts of which forms are made, each with what stands before it.
-ghost use Rattle.std.specs.Prelude.{◌≡◌, ◌++◌, IfOk};
-ghost use Rattle.av_tree.specs.declared.written.TypeText.{out-TypeText};
+ghost use Rattle.std.specs.Prelude.{◌≡◌, [], ◌++◌, IfOk};
 ghost use Rattle.av_printer.specs.Pieces.{spelt};
 ghost use Rattle.av_printer.specs.Operations.{head_of};
-ghost use Rattle.av_printer.specs.Patterns.{lead_pieces, item_pieces, part_pieces, parts_pieces, pattern_line, pattern_end, element, first_known, condition_type, selected_types, written_results, is_vector};
+ghost use Rattle.av_printer.specs.Parts.{lead_pieces, item_pieces, part_pieces, parts_pieces, first_word, form_line, form_end};
 
-use crate::entries::{arguments, property};
-use crate::generic::{
-    print_known_results, print_known_type, print_known_types, print_marks, print_values,
+use crate::entries::{arguments, map_of, property};
+use crate::generic::{print_marks, print_values};
+use crate::loops::{print_bound_of, print_carried, print_step_of, print_variable};
+use crate::operands::{print_buffer, print_element, print_more, print_values_behind};
+use crate::placed_types::{print_choice_types, print_type_at, print_written_results};
+use crate::properties::{
+    print_angled, print_applied, print_array_numbers, print_constant, print_flags, print_word,
 };
-use crate::lines::print_values_behind;
-use crate::loops::{print_carried, print_variable};
-use crate::pattern::{Item, Lead, Pattern, last_parts, parts};
-use crate::properties::{print_applied, print_array_numbers, print_kind, print_predicate};
-use crate::slices::{behind, last, without_last};
+use crate::shares::{before_regions, behind_regions, shared};
 use crate::subscripts::print_first;
-use crate::types::print_type;
 use crate::writer::Writer;
 use av_affine::Text;
-use av_tree::{Node, TypeText};
+use av_dialects::{Item, Lead, Part, property as name_of};
+use av_tree::Node;
 use std::alloc::AllocError;
 
 /// What stands before the regions, or all of an operation without one.
-#[tactic(auto, using(crate::proofs::Steps::steps), unfolding(crate::specs::Patterns::pattern_line))]
-pub(crate) fn open_pattern(
-    out: &mut Writer,
-    node: &Node,
-    pattern: Pattern,
-) -> Result<(), AllocError>
-    ensures { IfOk result (λ _. out.new ≡ out.old ++ spelt (pattern_line pattern (head_of node.now))) }
+#[tactic(auto, using(crate::proofs::Steps::steps), unfolding(crate::specs::Parts::form_line))]
+pub(crate) fn open_form(out: &mut Writer, node: &Node, parts: &[Part]) -> Result<(), AllocError>
+    ensures { IfOk result (λ _. out.new ≡ out.old ++ spelt (form_line parts.now (head_of node.now))) }
 {
-    out.push_text(&node.name)?;
-    print_parts(out, node, parts(pattern))?;
+    print_first_word(out, &node.name)?;
+    print_parts(out, node, before_regions(parts), node.operands.as_slice())?;
     Ok(())
 }
 
 /// What stands after the regions.
-#[tactic(auto, using(crate::proofs::Steps::steps), unfolding(crate::specs::Patterns::pattern_end))]
-pub(crate) fn close_pattern(
-    out: &mut Writer,
-    node: &Node,
-    pattern: Pattern,
-) -> Result<(), AllocError>
-    ensures { IfOk result (λ _. out.new ≡ out.old ++ spelt (pattern_end pattern (head_of node.now))) }
+#[tactic(auto, using(crate::proofs::Steps::steps), unfolding(crate::specs::Parts::form_end))]
+pub(crate) fn close_form(out: &mut Writer, node: &Node, parts: &[Part]) -> Result<(), AllocError>
+    ensures { IfOk result (λ _. out.new ≡ out.old ++ spelt (form_end parts.now (head_of node.now))) }
 {
-    print_parts(out, node, last_parts(pattern))?;
+    print_parts(out, node, behind_regions(parts), &[])?;
     Ok(())
 }
 
-#[tactic(auto, using(crate::proofs::Steps::steps), unfolding(crate::specs::Patterns::parts_pieces))]
-fn print_parts(out: &mut Writer, node: &Node, parts: &[(Lead, Item)]) -> Result<(), AllocError>
-    ensures { IfOk result (λ _. out.new ≡ out.old ++ spelt (parts_pieces (head_of node.now) parts.now)) }
+// The name, but for the return of a function.
+#[tactic(auto, using(crate::proofs::Steps::steps), unfolding(crate::specs::Parts::first_word))]
+fn print_first_word(out: &mut Writer, name: &Text) -> Result<(), AllocError>
+    ensures { IfOk result (λ _. out.new ≡ out.old ++ first_word name.now) }
 {
-    for part in parts {
-        print_part(out, node, part)?;
+    if name.as_slice() == b"func.return".as_slice() {
+        out.push_bytes(b"return")?;
+    } else {
+        out.push_text(name)?;
     }
     Ok(())
 }
 
-#[tactic(auto, using(crate::proofs::Steps::steps), unfolding(crate::specs::Patterns::part_pieces))]
-fn print_part(out: &mut Writer, node: &Node, part: &(Lead, Item)) -> Result<(), AllocError>
-    ensures { IfOk result (λ _. out.new ≡ out.old ++ spelt (part_pieces (head_of node.now) part.now)) }
+fn print_parts(
+    out: &mut Writer,
+    node: &Node,
+    parts: &[Part],
+    operands: &[Text],
+) -> Result<(), AllocError>
+    ensures { IfOk result (λ _. out.new ≡ out.old ++ spelt (parts_pieces (head_of node.now) parts.now operands.now)) }
+{
+    let mut left = operands;
+    for (i, part) in parts.iter().enumerate() {
+        let (_, next) = parts.split_at(i + 1);
+        let (taken, others) = shared(node, part.1, left, next);
+        print_part(out, node, part, taken)?;
+        left = others;
+    }
+    Ok(())
+}
+
+#[tactic(auto, using(crate::proofs::Steps::steps), unfolding(crate::specs::Parts::part_pieces))]
+fn print_part(
+    out: &mut Writer,
+    node: &Node,
+    part: &Part,
+    operands: &[Text],
+) -> Result<(), AllocError>
+    ensures { IfOk result (λ _. out.new ≡ out.old ++ spelt (part_pieces (head_of node.now) part.now operands.now)) }
 {
     let (lead, item) = *part;
     print_lead(out, lead)?;
-    print_item(out, node, item)?;
+    print_item(out, node, item, operands)?;
     Ok(())
 }
 
@@ -94,116 +111,55 @@ fn lead_text(lead: Lead) -> &'static [u8]
 }
 
 #[tactic(auto, using(crate::proofs::Steps::steps))]
-fn print_item(out: &mut Writer, node: &Node, item: Item) -> Result<(), AllocError>
-    ensures { IfOk result (λ _. out.new ≡ out.old ++ spelt (item_pieces (head_of node.now) item)) }
+fn print_item(
+    out: &mut Writer,
+    node: &Node,
+    item: Item,
+    operands: &[Text],
+) -> Result<(), AllocError>
+    ensures { IfOk result (λ _. out.new ≡ out.old ++ spelt (item_pieces (head_of node.now) item operands.now)) }
 {
-    let operands = node.operands.as_slice();
-    let inputs = node.in_types.as_slice();
     let outputs = node.out_types.as_slice();
     let properties = node.properties.as_slice();
     match item {
-        Item::Operand(at) => print_first(out, behind(operands, at))?,
+        Item::Operand(_) => print_first(out, operands)?,
+        Item::OptionalOperand => print_more(out, operands)?,
         Item::Operands => print_values(out, operands)?,
-        Item::LastOperands(count) => print_values(out, last(operands, count))?,
-        Item::Element { at, but } => print_element(out, behind(without_last(operands, but), at))?,
-        Item::Input(at) => print_first_known(out, behind(inputs, at))?,
-        Item::LastInputs(count) => print_known_types(out, last(inputs, count))?,
-        Item::Output => print_first_known(out, outputs)?,
-        Item::SelectedTypes => print_selected_types(out, inputs)?,
-        Item::Results => print_written_results(out, outputs)?,
+        Item::TypedOperands => print_values_behind(out, operands, node.in_types.as_slice())?,
+        Item::Element => print_element(out, operands)?,
+        Item::Type(_, slots) => print_type_at(out, node, slots)?,
+        Item::ChoiceTypes => print_choice_types(out, node.in_types.as_slice())?,
+        Item::Word(key) => print_word(out, property(properties, name_of(key).as_bytes()))?,
+        Item::Angled(key) => print_angled(out, property(properties, name_of(key).as_bytes()))?,
+        Item::Numbers(key) => print_array_numbers(
+            out,
+            property(properties, name_of(key).as_bytes()),
+        )?,
+        Item::Overflow => print_flags(out, property(properties, b"overflowFlags"))?,
+        Item::Marks => print_marks(out, node.attrs.as_slice())?,
+        Item::Constant => print_constant(out, property(properties, b"value"))?,
         Item::Map => print_applied(out, property(properties, b"map"), operands)?,
         Item::Set => print_applied(out, property(properties, b"condition"), operands)?,
-        Item::Predicate => print_predicate(out, property(properties, b"predicate"))?,
-        Item::Kind => print_kind(out, property(properties, b"kind"))?,
-        Item::Position => print_array_numbers(out, property(properties, b"static_position"))?,
-        Item::Lanes => print_array_numbers(out, property(properties, b"mask"))?,
-        Item::Marks => print_marks(out, node.attrs.as_slice())?,
-        Item::Variable => print_variable(out, arguments(node))?,
-        Item::Carried => print_carried(out, arguments(node), behind(operands, 3), outputs)?,
-        Item::Yielded => print_values_behind(out, operands, inputs)?,
-    }
-    Ok(())
-}
-
-// A buffer and its indices.
-#[tactic(auto, using(crate::proofs::Steps::steps, crate::proofs::ExpressionSteps::leaf_steps, crate::proofs::PartSteps::part_steps))]
-fn print_element(out: &mut Writer, operands: &[Text]) -> Result<(), AllocError>
-    ensures { IfOk result (λ _. out.new ≡ out.old ++ spelt (element operands.now)) }
-{
-    match operands {
-        [buffer, ..] => {
-            out.push_text(buffer)?;
-            out.push_bytes(b"[")?;
-            print_values(out, behind(operands, 1))?;
-            out.push_bytes(b"]")?;
-        }
-        [] => {}
-    }
-    Ok(())
-}
-
-#[tactic(auto, using(crate::proofs::Steps::steps, crate::proofs::PartSteps::part_steps))]
-fn print_first_known(out: &mut Writer, types: &[Option<TypeText>]) -> Result<(), AllocError>
-    ensures { IfOk result (λ _. out.new ≡ out.old ++ spelt (first_known types.now)) }
-{
-    match types {
-        [ty, ..] => print_known_type(out, ty)?,
-        [] => {}
-    }
-    Ok(())
-}
-
-#[tactic(auto, using(crate::proofs::Steps::steps, crate::proofs::PartSteps::part_steps))]
-fn print_selected_types(out: &mut Writer, types: &[Option<TypeText>]) -> Result<(), AllocError>
-    ensures { IfOk result (λ _. out.new ≡ out.old ++ spelt (selected_types types.now)) }
-{
-    match types {
-        [condition, ..] => {
-            print_condition_type(out, condition)?;
-            print_first_known(out, behind(types, 1))?;
-        }
-        [] => {}
-    }
-    Ok(())
-}
-
-// The type of a condition and a comma, where it is a vector.
-#[tactic(auto, using(crate::proofs::Steps::steps, crate::proofs::PartSteps::condition_steps))]
-fn print_condition_type(out: &mut Writer, ty: &Option<TypeText>) -> Result<(), AllocError>
-    ensures { IfOk result (λ _. out.new ≡ out.old ++ spelt (condition_type ty.now)) }
-{
-    match ty {
-        Some(ty) => {
-            if is_vector(ty) {
-                print_type(out, ty)?;
-                out.push_bytes(b", ")?;
-            }
-        }
-        None => {}
-    }
-    Ok(())
-}
-
-#[tactic(auto, using(crate::proofs::PartSteps::vector_steps))]
-fn is_vector(ty: &TypeText) -> bool
-    ensures { result ≡ is_vector (out-TypeText ty.now) }
-{
-    match ty {
-        TypeText::Vector { .. } => true,
-        TypeText::Scalar(_) => false,
-        TypeText::MemRef { .. } => false,
-        TypeText::Func { .. } => false,
-    }
-}
-
-// The types of results behind an arrow; nothing where there is none.
-#[tactic(auto, using(crate::proofs::Steps::steps, crate::proofs::PartSteps::part_steps, crate::proofs::Steps::signs_between))]
-fn print_written_results(out: &mut Writer, types: &[Option<TypeText>]) -> Result<(), AllocError>
-    ensures { IfOk result (λ _. out.new ≡ out.old ++ spelt (written_results types.now)) }
-{
-    if !types.is_empty() {
-        out.push_bytes(b" -> ")?;
-        print_known_results(out, types)?;
+        Item::Access => print_buffer(out, map_of(property(properties, b"map")), operands)?,
+        Item::Counter => print_variable(out, arguments(node))?,
+        Item::LowerBound => print_bound_of(
+            out,
+            true,
+            property(properties, b"lowerBoundMap"),
+            operands,
+        )?,
+        Item::UpperBound => print_bound_of(
+            out,
+            false,
+            property(properties, b"upperBoundMap"),
+            operands,
+        )?,
+        Item::Step => print_step_of(out, property(properties, b"step"))?,
+        Item::Carried => print_carried(out, arguments(node), operands, outputs)?,
+        Item::ResultTypes => print_written_results(out, outputs)?,
+        Item::ByHand => {}
+        Item::Region => {}
+        Item::Else => {}
     }
     Ok(())
 }

@@ -1,14 +1,16 @@
 //! What properties say in forms of their own.
-ghost use Rattle.std.specs.Prelude.{◌≡◌, ◌++◌, option_copied, Some, IfOk};
+ghost use Rattle.std.specs.Prelude.{◌≡◌, [], ◌++◌, get_or, map, option_copied, Some, IfOk};
 ghost use Rattle.av_printer.specs.Pieces.{spelt};
-ghost use Rattle.av_printer.specs.Patterns.{applied, predicate_name, predicate, kind, numbers};
+ghost use Rattle.av_printer.specs.Operations.{constant_value};
+ghost use Rattle.av_printer.specs.Parts.{applied, place_of, predicate_at, word_of, angled, angled_of, flags, flags_of, numbers};
 
-use crate::attributes::print_integers;
+use crate::attributes::{print_attribute, print_integers};
 use crate::expressions::print_texts;
 use crate::generic::print_values_in_round;
 use crate::subscripts::{print_map_use, print_set_use};
 use crate::writer::Writer;
 use av_affine::Text;
+use av_dialects::PREDICATES;
 use av_tree::Attr;
 use std::alloc::AllocError;
 
@@ -44,68 +46,128 @@ fn print_applied_attr(out: &mut Writer, attr: &Attr, operands: &[Text]) -> Resul
     Ok(())
 }
 
-#[tactic(auto, using(crate::proofs::Steps::steps, crate::proofs::PartSteps::predicate_steps))]
-pub(crate) fn print_predicate(out: &mut Writer, attr: Option<&Attr>) -> Result<(), AllocError>
-    ensures { IfOk result (λ _. out.new ≡ out.old ++ spelt (predicate (option_copied attr.entry))) }
+/// The word that the number of a predicate stands for.
+#[tactic(auto, using(crate::proofs::Steps::steps, crate::proofs::PartSteps::word_steps))]
+pub(crate) fn print_word(out: &mut Writer, attr: Option<&Attr>) -> Result<(), AllocError>
+    ensures { IfOk result (λ _. out.new ≡ out.old ++ spelt (word_of (option_copied attr.entry))) }
 {
     match attr {
-        Some(attr) => out.push_bytes(predicate_text(attr))?,
+        Some(attr) => out.push_bytes(word_in(attr))?,
         None => {}
     }
     Ok(())
 }
 
-#[tactic(auto, using(crate::proofs::PartSteps::predicate_steps))]
-fn predicate_text(attr: &Attr) -> &'static [u8]
-    ensures { result.now ≡ spelt (predicate (Some attr.now)) }
+#[tactic(auto, using(crate::proofs::PartSteps::word_steps))]
+fn word_in(attr: &Attr) -> &'static [u8]
+    ensures { result.now ≡ spelt (word_of (Some attr.now)) }
 {
     match attr {
-        Attr::Number { value, ty: _ } => predicate_name(*value),
+        Attr::Number { value, ty: _ } => predicate_at(*value),
         _ => b"",
     }
 }
 
-#[tactic(auto, unfolding(crate::specs::Patterns::predicate_name))]
-fn predicate_name(value: i128) -> &'static [u8]
-    ensures { result.now ≡ predicate_name value }
+// The word of the predicate of this number, or nothing.
+fn predicate_at(value: i128) -> &'static [u8]
+    ensures { result.now ≡ predicate_at value }
 {
-    match value {
-        0 => b"eq",
-        1 => b"ne",
-        2 => b"slt",
-        3 => b"sle",
-        4 => b"sgt",
-        5 => b"sge",
-        6 => b"ult",
-        7 => b"ule",
-        8 => b"ugt",
-        9 => b"uge",
-        _ => b"",
+    match place_of(value) {
+        Some(place) => word_at(PREDICATES, place),
+        None => b"",
     }
 }
 
-#[tactic(auto, using(crate::proofs::Steps::steps, crate::proofs::PartSteps::kind_steps))]
-pub(crate) fn print_kind(out: &mut Writer, attr: Option<&Attr>) -> Result<(), AllocError>
-    ensures { IfOk result (λ _. out.new ≡ out.old ++ spelt (kind (option_copied attr.entry))) }
+fn place_of(value: i128) -> Option<u128>
+    ensures { result ≡ place_of value }
+{
+    if value < 0 { None } else { Some(value as u128) }
+}
+
+fn word_at(words: &[&'static str], place: u128) -> &'static [u8]
+    ensures { result.now ≡ get_or (map (λ word. word.now) words.now) place [] }
+{
+    if place < words.len() as u128 {
+        words[place as usize].as_bytes()
+    } else {
+        b""
+    }
+}
+
+/// The words of a hash, in angle brackets.
+#[tactic(auto, using(crate::proofs::Steps::steps, crate::proofs::PartSteps::angled_steps))]
+pub(crate) fn print_angled(out: &mut Writer, attr: Option<&Attr>) -> Result<(), AllocError>
+    ensures { IfOk result (λ _. out.new ≡ out.old ++ spelt (angled_of (option_copied attr.entry))) }
 {
     match attr {
-        Some(attr) => print_kind_in(out, attr)?,
+        Some(attr) => print_angled_in(out, attr)?,
         None => {}
     }
     Ok(())
 }
 
-#[tactic(auto, using(crate::proofs::Steps::steps, crate::proofs::PartSteps::kind_steps))]
-fn print_kind_in(out: &mut Writer, attr: &Attr) -> Result<(), AllocError>
-    ensures { IfOk result (λ _. out.new ≡ out.old ++ spelt (kind (Some attr.now))) }
+#[tactic(auto, using(crate::proofs::Steps::steps, crate::proofs::PartSteps::angled_steps))]
+fn print_angled_in(out: &mut Writer, attr: &Attr) -> Result<(), AllocError>
+    ensures { IfOk result (λ _. out.new ≡ out.old ++ spelt (angled_of (Some attr.now))) }
 {
     match attr {
-        Attr::Hash { name: _, words } => {
-            out.push_bytes(b"<")?;
-            print_texts(out, words.as_slice())?;
-            out.push_bytes(b">")?;
-        }
+        Attr::Hash { name: _, words } => print_words(out, words.as_slice())?,
         _ => {}
+    }
+    Ok(())
+}
+
+fn print_words(out: &mut Writer, words: &[Text]) -> Result<(), AllocError>
+    ensures { IfOk result (λ _. out.new ≡ out.old ++ spelt (angled words.now)) }
+{
+    out.push_bytes(b"<")?;
+    print_texts(out, words)?;
+    out.push_bytes(b">")?;
+    Ok(())
+}
+
+/// The flags of overflow; nothing where there is none.
+#[tactic(auto, using(crate::proofs::Steps::steps, crate::proofs::PartSteps::flag_steps))]
+pub(crate) fn print_flags(out: &mut Writer, attr: Option<&Attr>) -> Result<(), AllocError>
+    ensures { IfOk result (λ _. out.new ≡ out.old ++ spelt (flags_of (option_copied attr.entry))) }
+{
+    match attr {
+        Some(attr) => print_flags_in(out, attr)?,
+        None => {}
+    }
+    Ok(())
+}
+
+#[tactic(auto, using(crate::proofs::Steps::steps, crate::proofs::PartSteps::flag_steps))]
+fn print_flags_in(out: &mut Writer, attr: &Attr) -> Result<(), AllocError>
+    ensures { IfOk result (λ _. out.new ≡ out.old ++ spelt (flags_of (Some attr.now))) }
+{
+    match attr {
+        Attr::Hash { name: _, words } => print_flag_words(out, words.as_slice())?,
+        _ => {}
+    }
+    Ok(())
+}
+
+#[tactic(auto, using(crate::proofs::Steps::steps, crate::proofs::PartSteps::flag_steps))]
+fn print_flag_words(out: &mut Writer, words: &[Text]) -> Result<(), AllocError>
+    ensures { IfOk result (λ _. out.new ≡ out.old ++ spelt (flags words.now)) }
+{
+    if !words.is_empty() {
+        out.push_bytes(b" overflow")?;
+        print_words(out, words)?;
+    }
+    Ok(())
+}
+
+/// The value of a constant.
+#[tactic(auto, using(crate::proofs::Steps::steps), unfolding(crate::specs::Operations::constant_value))]
+pub(crate) fn print_constant(out: &mut Writer, attr: Option<&Attr>) -> Result<(), AllocError>
+    ensures { IfOk result (λ _. out.new ≡ out.old ++ spelt (constant_value (option_copied attr.entry))) }
+{
+    match attr {
+        Some(attr) => print_attribute(out, attr)?,
+        None => {}
     }
     Ok(())
 }

@@ -1,7 +1,7 @@
 //! Types.
 ghost use Rattle.std.specs.Prelude.{◌≡◌, ◌++◌, map, IfOk};
 ghost use Rattle.av_printer.specs.Pieces.{spelt, commas, joined, in_round};
-ghost use Rattle.av_printer.specs.Types.{size_alone, size_x, dim_x, strides_of, offset_of, layout_behind, one_or_several, type_pieces};
+ghost use Rattle.av_printer.specs.Types.{size_alone, size_x, dim_x, strides_of, is_zero, written_offset, offset_of, layout_behind, one_or_several, type_pieces};
 
 use crate::writer::Writer;
 use av_tree::{DimText, LayoutText, SizeText, TypeText};
@@ -133,9 +133,26 @@ fn print_strides(out: &mut Writer, strides: &[SizeText]) -> Result<(), AllocErro
     Ok(())
 }
 
+// The offset, unless it is 0.
 #[tactic(auto, using(crate::proofs::Steps::steps), unfolding(crate::specs::Types::offset_of))]
 fn print_offset(out: &mut Writer, offset: SizeText) -> Result<(), AllocError>
     ensures { IfOk result (λ _. out.new ≡ out.old ++ spelt (offset_of offset)) }
+{
+    if !is_zero(offset) {
+        print_written_offset(out, offset)?;
+    }
+    Ok(())
+}
+
+fn is_zero(size: SizeText) -> bool
+    ensures { result ≡ is_zero size }
+{
+    matches!(size, SizeText::Fixed(0))
+}
+
+#[tactic(auto, using(crate::proofs::Steps::steps), unfolding(crate::specs::Types::written_offset))]
+fn print_written_offset(out: &mut Writer, offset: SizeText) -> Result<(), AllocError>
+    ensures { IfOk result (λ _. out.new ≡ out.old ++ spelt (written_offset offset)) }
 {
     out.push_bytes(b", offset: ")?;
     print_size(out, offset)?;

@@ -25,6 +25,7 @@ use Rattle.av_printer.specs.Expressions.{number, before, from, which, how_many, 
 use Rattle.av_printer.specs.Attributes.{typed, or_nothing, assigned, attr_of, entry_pieces}
 use Rattle.av_printer.specs.Dictionaries.{inserted, ordered_onto}
 use Rattle.av_printer.specs.Operations as lines
+use Rattle.av_printer.specs.Parts.{first_known, bound_in, bound_of}
 use Rattle.av_printer.specs.Operations.{Head, property}
 use Rattle.av_totree.specs.Types.{elem_name, size_of, dims_of, type_of}
 use Rattle.av_totree.specs.Constants.{signed_low}
@@ -114,10 +115,10 @@ typed_moves k name = with (spaced_moves (sign_moves k Colon refl)) (scalar_moves
 numbered_moves : (k : ℕ) (z : ℤ) (name : List ℕ) → Moves k 0 (number z ++ typed (text.Scalar name))
 numbered_moves k z name = with (number_moves k z) (typed_moves 0 name) (omega arith)
 
--- the type behind a line
-pub first_type_moves : (t : Ty) (others : List (Option TypeText)) → Moves 1 0 (lines.first_type (Some (type_of t) ∷ others))
-unfolding lines.first_type lines.known_type
-first_type_moves t others = with (spaced_moves (sign_moves 1 Colon refl)) (type_moves t) (omega arith)
+-- the first of several types
+pub first_type_moves : (t : Ty) (others : List (Option TypeText)) → Moves 1 0 (first_known (Some (type_of t) ∷ others))
+unfolding first_known lines.known_type
+first_type_moves t others = type_moves t
 
 -- ---- marks
 assigned_moves : (z : ℤ) (name : List ℕ) → Moves 0 0 (assigned (attr_of (number_of name z)))
@@ -219,9 +220,13 @@ constant_value_moves pattern =
     (numbered_moves 0 (signed_low W32 pattern) (codes "i32"))
 
 -- ---- bounds
-pub bound_moves : (lower : Bool) (z : ℤ) → Moves 0 0 (bound_by lower (bound_map z) [] (expr.Const z ∷ []))
-unfolding bound_by constant_bound
-bound_moves lower z = moves_as (bound_by lower (bound_map z) [] (expr.Const z ∷ [])) (single-const (bound_map z) [] z) (number_moves 0 z)
+pub bound_moves : (lower : Bool) (z : ℤ) → Moves 0 0 (bound_of lower (Some (attr.Map (bound_map z))) [])
+unfolding bound_of bound_by constant_bound
+bound_moves lower z =
+    moves_as (bound_of lower (Some (attr.Map (bound_map z))) [])
+    (ap (bound_in lower []) (ap out-Attr (sym (attr.rolls-Map (bound_map z))) ∙ out-roll-Attr (open_attr.Map (bound_map z)))
+    ∙ single-const (bound_map z) [] z)
+    (number_moves 0 z)
 
 -- ---- arguments
 pub argument_moves : (name : List ℕ) (t : Ty) → Moves 1 0 (lines.argument (record { name = name; ty = type_of t }))

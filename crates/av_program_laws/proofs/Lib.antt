@@ -26,6 +26,7 @@ pub mod PrintedWalks
 pub mod PrintedForms
 pub mod Balance
 pub mod BalanceOfParts
+pub mod BalanceOfForms
 pub mod BalanceOfTrees
 pub mod GenericParts
 pub mod GenericTrees

@@ -168,10 +168,9 @@ second-none body =
 second-unplaced : (regions : List Body) → map unplaced_body (second_ended regions) ≡ second_ended (map unplaced_body regions)
 second-unplaced [] = refl
 second-unplaced (only ∷ []) = refl
-second-unplaced (first ∷ second ∷ []) =
-    ap (λ (b : Body). unplaced_body first ∷ b ∷ []) (with_end-or (is_none (out-Body second).nodes) second
+second-unplaced (first ∷ second ∷ others) =
+    ap (λ (b : Body). unplaced_body first ∷ b ∷ map unplaced_body others) (with_end-or (is_none (out-Body second).nodes) second
     ∙ ap (λ (b : Bool). if b then with_end (unplaced_body second) else unplaced_body second) (second-none second))
-second-unplaced (first ∷ second ∷ third ∷ others) = refl
 
 completed-or : (b : Bool) (node : Node)
     → unplaced_node (if b then roll-Node (record (out-Node node) { regions = second_ended (out-Node node).regions }) else node)

@@ -60,10 +60,9 @@ ended-as_read body same =
 second_ended-as_read : (bodies : List Body) → second_ended bodies ≡ bodies → second_ended (map body_as_read bodies) ≡ map body_as_read bodies
 second_ended-as_read [] same = refl
 second_ended-as_read (first ∷ []) same = refl
-second_ended-as_read (first ∷ second ∷ []) same =
+second_ended-as_read (first ∷ second ∷ others) same =
     let is : ended second ≡ second = cc in
-    ap (λ (b : Body). body_as_read first ∷ b ∷ []) (ended-as_read second is)
-second_ended-as_read (first ∷ second ∷ third ∷ bodies) same = refl
+    ap (λ (b : Body). body_as_read first ∷ b ∷ map body_as_read others) (ended-as_read second is)
 
 -- ---- operations that lack nothing
 abbrev with_second_ended : Node-F Body Node → Node

@@ -1,5 +1,5 @@
 -- Values, numbers and types are printed and read again as themselves.
-use Rattle.std.proofs.Common.{◌≡◌, ℕ, suc, Bool, true, false, List, [], ◌∷◌, ◌++◌, map, refl, sym, ap, ◌∙◌, arith}
+use Rattle.std.proofs.Common.{◌≡◌, ℕ, zero, suc, Bool, true, false, List, [], ◌∷◌, ◌++◌, map, refl, sym, ap, ◌∙◌, arith}
 use Rattle.std.specs.Prelude.{pos, negsuc, IsTrue, Option, Some, None, reverse, codes, decimal, if◌then◌else◌, ◌==◌}
 use Rattle.std.specs.List.{All, list_all}
 use Rattle.std.proofs.lemmas.List.{reverse-reverse}
@@ -26,7 +26,7 @@ use Rattle.av_tree.specs.declared.written.TypeText.{TypeText, MemRef, Vector}
 use Rattle.av_tree.specs.Classes.{fits_of}
 use Rattle.av_derive.specs.ClassOf.{keywords}
 use Rattle.av_printer.specs.Pieces.{Piece, token, joined, commas, in_round}
-use Rattle.av_printer.specs.Types.{size_alone, size_x, dim_x, strides_of, offset_of, layout_behind, one_or_several, type_pieces}
+use Rattle.av_printer.specs.Types.{size_alone, size_x, dim_x, strides_of, written_offset, offset_of, layout_behind, one_or_several, type_pieces}
 use Rattle.av_printer.specs.Expressions.{before, from, which, how_many, value as value_pieces, number, result_name}
 use Rattle.av_printer.specs.Operations.{results_before}
 use Rattle.av_values.specs.Sorts.{on_top, replaced}
@@ -214,11 +214,17 @@ module _ {most : ℕ} where
       → Gives most (symbol.Rows (name.Type types_name.Strides) ∷ []) (commas (map size_alone ss)) (value.Sizes (reverse ss) ∷ [])
   given_strides ss all = given_all stride_rows size_alone given_stride ss all
 
-  given_offset : (s : SizeText) → IsShortSize s → Gives most (symbol.Rows (name.Type types_name.OptionalOffset) ∷ []) (offset_of s) (value.Size s ∷ [])
-  unfolding offset_of keywords replaced on_top
-  given_offset s short =
+  given_written : (s : SizeText) → IsShortSize s → Gives most (symbol.Rows (name.Type types_name.OptionalOffset) ∷ []) (written_offset s) (value.Size s ∷ [])
+  unfolding written_offset keywords replaced on_top
+  given_written s short =
       given_row (rule.Type types_rule.WrittenOffset) refl tt
       (join (join (join given_comma (given_word key.Offset (codes "offset") refl)) given_colon) (given_stride s short)) refl
+
+  given_offset : (s : SizeText) → IsShortSize s → Gives most (symbol.Rows (name.Type types_name.OptionalOffset) ∷ []) (offset_of s) (value.Size s ∷ [])
+  unfolding offset_of replaced on_top
+  given_offset (sizes.Fixed zero) short = given_row (rule.Type types_rule.NoOffset) refl tt none refl
+  given_offset (sizes.Fixed (suc n)) short = given_written (sizes.Fixed (suc n)) short
+  given_offset sizes.Dynamic short = given_written sizes.Dynamic short
 
   given_layout : (at : Option LayoutText) → IsShortLayout at
       → Gives most (symbol.Rows (name.Type types_name.Layout) ∷ []) (layout_behind at) (value.Layout at ∷ [])

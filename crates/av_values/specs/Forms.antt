@@ -182,18 +182,18 @@ abbrev pub is_none : {A : Type 0} → List A → Bool
 is_none [] = true
 is_none (_ ∷ _) = false
 
--- whether these are two regions, the second without operations
+-- whether there is a second region, without operations
 abbrev pub lacks_second : List Body → Bool
-lacks_second (first ∷ second ∷ []) = is_none (out-Body second).nodes
+lacks_second (first ∷ second ∷ others) = is_none (out-Body second).nodes
 lacks_second _ = false
 
 -- a region with a terminator after its operations
 abbrev pub with_end : Body → Body
 with_end body = roll-Body (record (out-Body body) { nodes = (out-Body body).nodes ++ plain (codes "affine.yield") 0 ∷ [] })
 
--- two regions, the second with a terminator where it has no operation; other regions as they are
+-- the second region with a terminator where it has no operation; the others as they are
 abbrev pub second_ended : List Body → List Body
-second_ended (first ∷ second ∷ []) = first ∷ (if is_none (out-Body second).nodes then with_end second else second) ∷ []
+second_ended (first ∷ second ∷ others) = first ∷ (if is_none (out-Body second).nodes then with_end second else second) ∷ others
 second_ended regions = regions
 
 -- whether this is a branch without results

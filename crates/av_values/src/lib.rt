@@ -3,6 +3,7 @@
 #![tactic(auto)]
 
 pub mod joining;
+mod lists;
 pub mod loops;
 pub mod nodes;
 pub mod numbers;

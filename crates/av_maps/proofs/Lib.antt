@@ -1,0 +1,5 @@
+pub mod Meanings
+pub mod OwnPlaces
+pub mod TextVariants
+pub mod Usable
+pub mod Variants

@@ -1,0 +1,39 @@
+//! What holds of the definitions as a whole, for the proofs of callers. These functions do nothing.
+
+ghost use Rattle.av_rules.specs.EdgeExamples.{EdgeExamples};
+ghost use Rattle.av_rules.specs.Examples.{RuleExamples};
+ghost use Rattle.av_rules.specs.Fails.{LeastLaw};
+ghost use Rattle.av_rules.specs.RowExamples.{RowExamples};
+ghost use Rattle.av_rules.specs.Views.{ViewsLaw};
+ghost use Rattle.av_rules.specs.Walks.{AllSitesLaw};
+
+/// The pair that is answered fails and none that fails comes before it; none is answered exactly where
+/// none fails.
+pub fn least_pairs()
+    ensures { LeastLaw }
+{}
+
+/// For each code small trees, each taken, or refused for the operation and the code that are said.
+pub fn some_trees()
+    ensures { RuleExamples }
+{}
+
+/// For most operations a tree that is taken, and one that is refused.
+pub fn some_operations()
+    ensures { RowExamples }
+{}
+
+/// At the edges of limits, and where two things are wrong, trees that are taken or refused as is said.
+pub fn some_edges()
+    ensures { EdgeExamples }
+{}
+
+/// What is read off an operation and a region is what they have.
+pub fn views_agree()
+    ensures { ViewsLaw }
+{}
+
+/// Each operation of a tree has one place in the walk, and there are no others.
+pub fn all_sites()
+    ensures { AllSitesLaw }
+{}
