@@ -6,5 +6,5 @@ mod entries;
 mod properties;
 
 pub use counts::counts;
-pub use entries::has_needed;
+pub use entries::{has_needed, is_symbol_text};
 pub use properties::steps;
