@@ -19,17 +19,17 @@ words-append (word kind text ∷ ps) qs = ap (λ ws. (kind, text) ∷ ws) (words
 pub record Prints (inside : List Node → List Piece) (ps : List Piece) (ws : List form.Word) : Type 0 where
   pub same : words_of ps ≡ spelled inside ws
 
-module _ {inside : List Node → List Piece} where
-  spelled-append : (us ws : List form.Word) → spelled inside (us ++ ws) ≡ spelled inside us ++ spelled inside ws
-  spelled-append [] ws = refl
-  spelled-append (u ∷ us) ws =
-      ap (λ l. words_of (word_pieces inside u) ++ l) (spelled-append us ws)
-      ∙ sym (append_assoc (words_of (word_pieces inside u)) (spelled inside us) (spelled inside ws))
+spelled-append : (inside : List Node → List Piece) (us ws : List form.Word) → spelled inside (us ++ ws) ≡ spelled inside us ++ spelled inside ws
+spelled-append inside [] ws = refl
+spelled-append inside (u ∷ us) ws =
+    ap (λ l. words_of (word_pieces inside u) ++ l) (spelled-append inside us ws)
+    ∙ sym (append_assoc (words_of (word_pieces inside u)) (spelled inside us) (spelled inside ws))
 
+module _ {inside : List Node → List Piece} where
   -- ---- one after another
   pub join : {ps qs : List Piece} {us ws : List form.Word} → Prints inside ps us → Prints inside qs ws → Prints inside (ps ++ qs) (us ++ ws)
   join {ps} {qs} {us} {ws} a b = record {
-    same = words-append ps qs ∙ ap (λ l. l ++ words_of qs) a.same ∙ ap (λ l. spelled inside us ++ l) b.same ∙ sym (spelled-append us ws);
+    same = words-append ps qs ∙ ap (λ l. l ++ words_of qs) a.same ∙ ap (λ l. spelled inside us ++ l) b.same ∙ sym (spelled-append inside us ws);
   }
 
   pub printed-as : {ps qs : List Piece} {ws : List form.Word} → ps ≡ qs → Prints inside qs ws → Prints inside ps ws
