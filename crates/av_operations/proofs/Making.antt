@@ -1,0 +1,101 @@
+-- What the parts of a form make, one after another.
+use Rattle.std.proofs.Common.{◌≡◌, ℕ, List, [], ◌∷◌, ◌++◌, Option, Some, None, refl, ap, ◌∙◌, sym}
+use Rattle.std.specs.Option.{option_map, option_and_then}
+use Rattle.av_dialects.specs.declared.item.Lead.{Lead}
+use Rattle.av_dialects.specs.declared.item.Lead.TheVariants as lead
+use Rattle.av_dialects.specs.Rows.{Part, form_of}
+use Rattle.av_tree.specs.declared.node.Node.{Node, out-Node, roll-Node}
+use Rattle.av_tree.specs.declared.written.TypeText.{TypeText}
+use Rattle.av_tree.specs.Forms.{form_symbols, item_symbols, lead_symbols}
+use Rattle.av_values.specs.declared.gifts.Gift.{Gift}
+use Rattle.av_values.specs.declared.value.Value.{Value}
+use Rattle.av_values.specs.Gifts.{given, unwritten}
+use Rattle.av_values.specs.Made.{by_row, gift_of, made_of, split, taken}
+use Rattle.av_values.specs.Sorts.{All, Of, Sort, a_node, any, on_top, sorts_of}
+use Rattle.av_values.proofs.Taking.{replaced-taken, taken-behind, taken-not-behind}
+
+-- ---- what is made of what is made
+after-each : {T P Q : Type 0} (o : Option T) (f : T → Option P) (g : T → Option Q) (m : P → Q)
+    → ((top : T) → g top ≡ option_map m (f top)) → option_and_then g o ≡ option_map m (option_and_then f o)
+after-each None f g m h = refl
+after-each (Some top) f g m h = h top
+
+taken-through : {A B : Type 0} (ss : List Sort) (make : All ss → A) (f : A → B) (under : List Value)
+    → taken ss (λ vs. f (make vs)) under ≡ option_map (λ (t : A × List Value). (f t.0, t.1)) (taken ss make under)
+unfolding taken
+taken-through [] make f under = refl
+taken-through (t ∷ ss) make f under = after-each (on_top t under) _ _ _ (λ top. taken-through ss (λ others. make (top.0, others)) f top.1)
+
+-- a lead has no value
+lead-taken : (l : Lead) (under : List Value) → taken (sorts_of (lead_symbols l)) (λ _. tt) under ≡ Some (tt, under)
+unfolding taken
+lead-taken lead.Nothing under = refl
+lead-taken lead.Blank under = refl
+lead-taken lead.Comma under = refl
+lead-taken lead.Colon under = refl
+lead-taken lead.Equal under = refl
+lead-taken lead.To under = refl
+lead-taken lead.Step under = refl
+lead-taken lead.Into under = refl
+lead-taken lead.From under = refl
+
+-- ---- parts
+-- what the parts behind a gift make, and the gift given to it
+abbrev with_gift : ℕ → ℕ → (ps : List Part) → List (Option TypeText) → Gift → All (sorts_of (form_symbols ps)) → Node
+with_gift number place ps types own vs = roll-Node (given own (made_of number place ps (types ++ unwritten own.operands) vs))
+
+behind-lead : (number place : ℕ) (p : Part) (ps : List Part) (types : List (Option TypeText)) (old : List Value) (after : Option (Node × List Value))
+    → taken (sorts_of (item_symbols p.1 ++ form_symbols ps))
+    (λ vs. let both = split (item_symbols p.1) (form_symbols ps) vs in with_gift number place ps types (gift_of p.1 both.0) both.1) old ≡ after
+    → taken (sorts_of (form_symbols (p ∷ ps))) (λ vs. roll-Node (made_of number place (p ∷ ps) types vs)) old ≡ after
+behind-lead number place p ps types old after h =
+    taken-behind (lead_symbols p.0) (item_symbols p.1 ++ form_symbols ps) (λ _. tt)
+    (λ _ vs. let both = split (item_symbols p.1) (form_symbols ps) vs in with_gift number place ps types (gift_of p.1 both.0) both.1)
+    tt old old after (lead-taken p.0 old) h
+
+pub part-made : (number place : ℕ) (p : Part) (ps : List Part) (types : List (Option TypeText)) (own : Gift) (old between new : List Value) (later node : Node)
+    → taken (sorts_of (item_symbols p.1)) (gift_of p.1) old ≡ Some (own, between)
+    → taken (sorts_of (form_symbols ps)) (λ vs. roll-Node (made_of number place ps (types ++ unwritten own.operands) vs)) between ≡ Some (later, new)
+    → node ≡ roll-Node (given own (out-Node later))
+    → taken (sorts_of (form_symbols (p ∷ ps))) (λ vs. roll-Node (made_of number place (p ∷ ps) types vs)) old ≡ Some (node, new)
+part-made number place p ps types own old between new later node g h e =
+    let put : Node → Node = λ n. roll-Node (given own (out-Node n)) in
+    let given-later : taken (sorts_of (form_symbols ps)) (with_gift number place ps types own) between ≡ Some (put later, new) =
+        taken-through (sorts_of (form_symbols ps)) (λ vs. roll-Node (made_of number place ps (types ++ unwritten own.operands) vs)) put between
+        ∙ ap (option_map (λ (t : Node × List Value). (put t.0, t.1))) h in
+    rw e (behind-lead number place p ps types old (Some (put later, new))
+    (taken-behind (item_symbols p.1) (form_symbols ps) (gift_of p.1) (with_gift number place ps types) own old between (Some (put later, new)) g given-later))
+
+pub part-missing : (number place : ℕ) (p : Part) (ps : List Part) (types : List (Option TypeText)) (old : List Value)
+    → taken (sorts_of (item_symbols p.1)) (gift_of p.1) old ≡ None
+    → taken (sorts_of (form_symbols (p ∷ ps))) (λ vs. roll-Node (made_of number place (p ∷ ps) types vs)) old ≡ None
+part-missing number place p ps types old g =
+    behind-lead number place p ps types old None
+    (taken-not-behind (item_symbols p.1) (form_symbols ps) (gift_of p.1) (with_gift number place ps types) old g)
+
+pub later-missing : (number place : ℕ) (p : Part) (ps : List Part) (types : List (Option TypeText)) (own : Gift) (old between : List Value)
+    → taken (sorts_of (item_symbols p.1)) (gift_of p.1) old ≡ Some (own, between)
+    → taken (sorts_of (form_symbols ps)) (λ vs. roll-Node (made_of number place ps (types ++ unwritten own.operands) vs)) between ≡ None
+    → taken (sorts_of (form_symbols (p ∷ ps))) (λ vs. roll-Node (made_of number place (p ∷ ps) types vs)) old ≡ None
+later-missing number place p ps types own old between g h =
+    let put : Node → Node = λ n. roll-Node (given own (out-Node n)) in
+    let none-later : taken (sorts_of (form_symbols ps)) (with_gift number place ps types own) between ≡ None =
+        taken-through (sorts_of (form_symbols ps)) (λ vs. roll-Node (made_of number place ps (types ++ unwritten own.operands) vs)) put between
+        ∙ ap (option_map (λ (t : Node × List Value). (put t.0, t.1))) h in
+    behind-lead number place p ps types old None
+    (taken-behind (item_symbols p.1) (form_symbols ps) (gift_of p.1) (with_gift number place ps types) own old between None g none-later)
+
+-- ---- the whole operation
+pub operation-made : (number place : ℕ) (old new : List Value) (node : Node)
+    → taken (sorts_of (form_symbols (form_of number))) (λ vs. roll-Node (made_of number place (form_of number) [] vs)) old ≡ Some (node, new)
+    → by_row number place old ≡ Some (any a_node node ∷ new)
+operation-made number place old new node h =
+    replaced-taken (sorts_of (form_symbols (form_of number))) a_node (λ (n : Node). n) (λ vs. roll-Node (made_of number place (form_of number) [] vs)) old
+    ∙ ap (option_map (λ (t : Node × List Value). any a_node t.0 ∷ t.1)) h
+
+pub operation-missing : (number place : ℕ) (old : List Value)
+    → taken (sorts_of (form_symbols (form_of number))) (λ vs. roll-Node (made_of number place (form_of number) [] vs)) old ≡ None
+    → by_row number place old ≡ None
+operation-missing number place old h =
+    replaced-taken (sorts_of (form_symbols (form_of number))) a_node (λ (n : Node). n) (λ vs. roll-Node (made_of number place (form_of number) [] vs)) old
+    ∙ ap (option_map (λ (t : Node × List Value). any a_node t.0 ∷ t.1)) h
