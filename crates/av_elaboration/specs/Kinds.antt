@@ -46,7 +46,7 @@ use_at names site label u = normal_use (map_at label site) (values_named names (
 
 -- other operands, and behind them those of the normalised map
 abbrev pub applies : (AffMap → OpKind) → List ValueId → MapUse → Does
-applies k before use = does (k use.map) (before ++ use.operands)
+applies k before u = does (k u.map) (before ++ u.operands)
 
 -- a loop's operands: those of both bounds, and the first values of those that it carries
 abbrev pub loops : ℕ → MapUse → MapUse → List ValueId → Does
