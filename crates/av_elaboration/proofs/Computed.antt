@@ -5,7 +5,7 @@ use Rattle.av_affine.specs.Finding.{bound_found}
 use Rattle.av_affine.specs.Limits.{has_parameter, node_count}
 use Rattle.av_affine.specs.Values.{value_of}
 use Rattle.av_affine.specs.declared.expression.Expr.TheBlock.{shape-the_row-Expr-0, hidden-the_row-Expr-0}
-use Rattle.av_affine_laws.specs.Normalised.{parameters}
+use Rattle.av_affine_laws.specs.Normalised.{occur, parameters, renamed}
 use Rattle.av_dialects.specs.Rows.{kinds, predicates}
 use Rattle.av_maps.specs.Asked.{has_own}
 use Rattle.av_maps.specs.Written.{expr_of}
@@ -30,15 +30,15 @@ unfolding rows tagged fields bodies_in inside nodes_in function_in types_listed 
 values = refl
 
 loop : Loop
-unfolding rows tagged fields bodies_in inside nodes_in function_in types_listed operations_in operations_in_bodies operations_within operations_in_nodes op_from func_from expr_of nest_of nests_of parameters shape-the_row-ExprText-0 hidden-the_row-ExprText-0 shape-the_row-Expr-0 hidden-the_row-Expr-0 hidden
+unfolding rows tagged fields bodies_in inside nodes_in function_in types_listed operations_in operations_in_bodies operations_within operations_in_nodes op_from func_from expr_of nest_of nests_of parameters occur renamed shape-the_row-ExprText-0 hidden-the_row-ExprText-0 shape-the_row-Expr-0 hidden-the_row-Expr-0 hidden
 loop = refl
 
 carried : Carried
-unfolding rows tagged fields bodies_in inside nodes_in function_in types_listed operations_in operations_in_bodies operations_within operations_in_nodes op_from func_from expr_of nest_of nests_of parameters shape-the_row-ExprText-0 hidden-the_row-ExprText-0 shape-the_row-Expr-0 hidden-the_row-Expr-0 hidden
+unfolding rows tagged fields bodies_in inside nodes_in function_in types_listed operations_in operations_in_bodies operations_within operations_in_nodes op_from func_from expr_of nest_of nests_of parameters occur renamed shape-the_row-ExprText-0 hidden-the_row-ExprText-0 shape-the_row-Expr-0 hidden-the_row-Expr-0 hidden
 carried = refl
 
 dropped-one : Dropped
-unfolding rows tagged fields bodies_in inside nodes_in function_in types_listed operations_in operations_in_bodies operations_within operations_in_nodes op_from func_from expr_of nest_of nests_of parameters shape-the_row-ExprText-0 hidden-the_row-ExprText-0 shape-the_row-Expr-0 hidden-the_row-Expr-0 hidden
+unfolding rows tagged fields bodies_in inside nodes_in function_in types_listed operations_in operations_in_bodies operations_within operations_in_nodes op_from func_from expr_of nest_of nests_of parameters occur renamed shape-the_row-ExprText-0 hidden-the_row-ExprText-0 shape-the_row-Expr-0 hidden-the_row-Expr-0 hidden
 dropped-one = refl
 
 functions : Functions

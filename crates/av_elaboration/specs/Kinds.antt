@@ -1,5 +1,5 @@
 -- What an operation does and which values it uses, where the values of its names are known.
-use Rattle.std.specs.Prelude.{ℕ, List, ◌∷◌, ◌++◌, [], map, take, drop, find, codes}
+use Rattle.std.specs.Prelude.{ℕ, ◌+◌, List, ◌∷◌, ◌++◌, [], map, take, drop, find, codes}
 use Rattle.std.specs.Option.{option_map_or}
 use Rattle.std.specs.Str.{bytes_eq}
 use Rattle.av_affine.specs.declared.expression.AffMap.{AffMap}
@@ -46,7 +46,7 @@ use_at names site label u = normal_use (map_at label site) (values_named names (
 
 -- other operands, and behind them those of the normalised map
 abbrev pub applies : (AffMap → OpKind) → List ValueId → MapUse → Does
-applies k before use = does (k use.map) (before ++ use.operands)
+applies k before u = does (k u.map) (before ++ u.operands)
 
 -- a loop's operands: those of both bounds, and the first values of those that it carries
 abbrev pub loops : ℕ → MapUse → MapUse → List ValueId → Does
