@@ -11,7 +11,12 @@ use Rattle.av_rules.specs.Views.{fields, inside}
 use Rattle.av_tree.specs.declared.node.Body.{Body}
 use Rattle.av_tree.specs.declared.node.Node.{Node}
 use Rattle.av_tree.specs.declared.node.Tree.{Tree}
-use Rattle.av_elaboration.specs.Elaboration.{Elaborates, Known, Made, begun, elab, first_known, func_from, func_of, funcs_in_order, op_from, opened, ops_in_order, region_at, region_of, regions_in_order, then, with_regions}
+use Rattle.av_elaboration.specs.Elaboration.{Elaborates, Known, Made, begun, elab, first_known, func_from, func_of, funcs_in_order, op_from, opened, ops_in_order, region_at, region_of, regions_in_order, result_types, then, with_regions}
+use Rattle.av_elaboration.specs.Fields.{constant_at, marks_at}
+use Rattle.av_elaboration.specs.Kinds.{Binding, done_by, use_at}
+use Rattle.av_elaboration.specs.declared.tag.Tag.{Tag}
+use Rattle.av_ir.specs.declared.module.ValueId.{ValueId}
+use Rattle.av_signatures.specs.declared.signature.Uses.{Uses}
 use Rattle.av_elaboration.specs.ModuleLaws.{OneModuleLaw}
 
 -- the same place in another mode
@@ -35,6 +40,21 @@ module _ (m : Mode) (walk : Site → Known → Made Op) (same : (site : Site) (k
   regions-same site (body ∷ bodies) known =
       ap (λ first. then first (regions_in_order walk (in-mode m site) bodies)) (region-same site body known)
       ∙ ap (λ (others : Made (List Region)). then (region_at walk site body known) (λ _. others)) (regions-same site bodies (region_at walk site body known).after)
+
+types-same : (m : Mode) (site : Site) → result_types (in-mode m site) ≡ result_types site
+types-same m site = refl
+
+marks-same : (m : Mode) (site : Site) → marks_at (in-mode m site) ≡ marks_at site
+marks-same m site = refl
+
+constant-same : (m : Mode) (site : Site) → constant_at (in-mode m site) ≡ constant_at site
+constant-same m site = refl
+
+use-same : (m : Mode) (names : List Binding) (site : Site) (label : List ℕ) (u : Uses) → use_at names (in-mode m site) label u ≡ use_at names site label u
+use-same m names site label u = refl
+
+done-same : (m : Mode) (t : Tag) (names : List Binding) (site : Site) (values : List ValueId) → done_by t names (in-mode m site) values ≡ done_by t names site values
+done-same m t names site values = refl
 
 op-same : (m : Mode) (nested : ℕ) (site : Site) (known : Known) → op_from nested (in-mode m site) known ≡ op_from nested site known
 unfolding op_from
