@@ -2,7 +2,7 @@
 
 ghost use Rattle.std.specs.Prelude.{◌≡◌, option_map};
 ghost use Rattle.std.specs.Option.{option_copied};
-ghost use Rattle.av_rules.specs.Entries.{array_of, entry_of, is_named, number_of, numbers_of};
+ghost use Rattle.av_rules.specs.Entries.{array_of, entry_of, is_named, natural, number_of, numbers_of, text_of};
 
 use super::views::{attrs, properties};
 use av_tree::{Attr, Named, Node, TypeText};
@@ -55,5 +55,26 @@ pub fn numbers_in<'t>(node: &'t Node, label: &[u8]) -> Option<&'t [i128]>
     match entry(node, label) {
         Some(value) => array_in(b"i64".as_slice(), value),
         None => None,
+    }
+}
+
+/// A number from 0 on and below a limit.
+pub fn natural(limit: u128, number: i128) -> Option<u128>
+    ensures { result ≡ natural limit number }
+{
+    if 0 <= number && (number as u128) < limit {
+        Some(number as u128)
+    } else {
+        None
+    }
+}
+
+/// The name in a text.
+pub fn text_in(value: &Attr) -> Option<&[u8]>
+    ensures { option_map (λ text. text.now) result ≡ text_of value.now }
+{
+    match value {
+        Attr::Quoted(text) => Some(text.as_slice()),
+        _ => None,
     }
 }

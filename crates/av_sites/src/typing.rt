@@ -1,0 +1,150 @@
+//! The types at the places of an operation, and those of the values that a loop carries.
+
+ghost use Rattle.std.specs.Prelude.{◌≡◌, drop, option_map, take};
+ghost use Rattle.std.specs.List.{list_any};
+ghost use Rattle.std.specs.Option.{option_copied};
+ghost use Rattle.av_rules.specs.Places.{operand_types};
+ghost use Rattle.av_rules.specs.Typing.{carried_count, carried_types, has_segments, is_segments, type_at, type_in, written_result};
+ghost use Rattle.av_signatures.specs.TableLaws.{least};
+ghost use Rattle.av_sites.specs.Rows.{row_with};
+ghost use Rattle.av_sites.specs.TypeViews.{type_seen};
+
+use super::segments::segments_of;
+use super::type_views::{TypeView, spelled, view_of};
+use super::views::out_types;
+use av_ir::Ty;
+use av_signatures::{Count, Form, Place, Property, Signature};
+use av_tree::Node;
+
+/// The type that is written for a result.
+pub fn written_result(node: &Node, at: usize) -> Option<TypeView>
+    ensures { (site : _) → option_map type_seen result ≡ written_result (record site { node = node.now }) at }
+{
+    match out_types(node).get(at) {
+        Some(Some(text)) => spelled(text),
+        _ => None,
+    }
+}
+
+/// The type at a place of a list, where it is known.
+pub fn type_in(types: &[Option<Ty>], at: usize) -> Option<&Ty>
+    ensures { option_copied result ≡ type_in types.now at }
+{
+    match types.get(at) {
+        Some(Some(ty)) => Some(ty),
+        _ => None,
+    }
+}
+
+fn view_in(types: &[Option<Ty>], at: usize) -> Option<TypeView>
+    ensures { option_map type_seen result ≡ type_in types.now at }
+{
+    Some(view_of(type_in(types, at)?))
+}
+
+/// The type at a place of an operation whose operands have these types.
+pub fn type_at<'t>(node: &'t Node, types: &'t [Option<Ty>], place: Place) -> Option<TypeView<'t>>
+    ensures {
+        (site : _) → operand_types (record site { node = node.now }) ≡ types.now
+        → option_map type_seen result ≡ type_at (record site { node = node.now }) place
+    }
+{
+    match place {
+        Place::Operand(at) => view_in(types, at as usize),
+        Place::FromEnd(at) => {
+            if (at as usize) < types.len() {
+                view_in(types, types.len() - (at as usize + 1))
+            } else {
+                None
+            }
+        }
+        Place::Result => written_result(node, 0),
+    }
+}
+
+/// Whether the operands of a loop are parted by a property.
+pub fn has_segments(row: &Signature) -> bool
+    ensures { (name : _) → result ≡ has_segments (row_with name row.now) }
+{
+    have_segments(row.properties)
+}
+
+fn have_segments(properties: &[Property]) -> bool
+    ensures { result ≡ list_any (λ property. is_segments property.1) properties.now }
+{
+    properties.iter().any(|property| is_segments(property.1))
+}
+
+fn is_segments(form: Form) -> bool
+    ensures { result ≡ is_segments form }
+{
+    matches!(form, Form::Segments)
+}
+
+/// The least number of operands.
+pub fn least(count: Count) -> usize
+    ensures { result ≡ least count }
+{
+    match count {
+        Count::Exactly(n) => n as usize,
+        Count::Between(n, _) => n as usize,
+        Count::AtLeast(n) => n as usize,
+        Count::PerSize(_, n) => n as usize,
+    }
+}
+
+/// How many values a loop carries, where its parts can be read.
+pub fn carried_count(row: &Signature, node: &Node, types: &[Option<Ty>]) -> Option<u128>
+    ensures {
+        (name : _) (site : _) → operand_types (record site { node = node.now }) ≡ types.now
+        → result ≡ carried_count (row_with name row.now) (record site { node = node.now })
+    }
+{
+    if has_segments(row) {
+        Some(segments_of(node)?.carried)
+    } else {
+        Some(types.len().saturating_sub(least(row.operands)) as u128)
+    }
+}
+
+/// The types of the first values that a loop carries, where its parts can be read.
+pub fn carried_types<'t>(
+    row: &Signature,
+    node: &Node,
+    types: &'t [Option<Ty>],
+) -> Option<&'t [Option<Ty>]>
+    ensures {
+        (name : _) (site : _) → operand_types (record site { node = node.now }) ≡ types.now
+        → option_map (λ list. list.now) result ≡ carried_types (row_with name row.now) (record site { node = node.now })
+    }
+{
+    if has_segments(row) {
+        let segments = segments_of(node)?;
+        let behind = types_from(types_from(types, segments.lower), segments.upper);
+        Some(first_types(behind, segments.carried))
+    } else {
+        Some(types_from(types, least(row.operands) as u128))
+    }
+}
+
+// The types from a place on.
+fn types_from(types: &[Option<Ty>], from: u128) -> &[Option<Ty>]
+    ensures { result.now ≡ drop from types.now }
+{
+    if from < types.len() as u128 {
+        &types[from as usize..]
+    } else {
+        &types[types.len()..]
+    }
+}
+
+// So many of the types.
+fn first_types(types: &[Option<Ty>], many: u128) -> &[Option<Ty>]
+    ensures { result.now ≡ take many types.now }
+{
+    if many < types.len() as u128 {
+        &types[..many as usize]
+    } else {
+        types
+    }
+}
