@@ -1,5 +1,5 @@
 -- For each code a tree that is refused for it, beside one that is taken.
-use Rattle.std.specs.Prelude.{ℕ, ◌≡◌, pos, negsuc, false, List, [], ◌∷◌, Some, None, codes}
+use Rattle.std.specs.Prelude.{ℕ, ◌+◌, ◌≡◌, pos, negsuc, false, List, [], ◌∷◌, ◌++◌, length, map, Some, None, codes}
 use Rattle.av_tree.specs.declared.attribute.Attr.TheVariants as attr
 use Rattle.av_tree.specs.declared.node.Node.{Node}
 use Rattle.av_tree.specs.declared.node.Tree.{Tree}
@@ -18,6 +18,15 @@ IsTaken tree = least tree mode.Run ≡ None
 -- the least pair that fails
 abbrev pub IsRefused : Tree → ℕ → ℕ → Type 0
 IsRefused tree k c = least tree mode.Run ≡ Some (record { operation = k; code = c })
+
+-- each of these operations is taken in a function's body, behind those before it
+abbrev pub EachTaken : List Node → List Node → Type 0
+EachTaken before nodes = map (λ node. least (body (before ++ node ∷ [])) mode.Run) nodes ≡ map (λ _. None) nodes
+
+-- each of them is refused there for this code
+abbrev pub EachRefused : List Node → List Node → ℕ → Type 0
+EachRefused before nodes c =
+    map (λ node. least (body (before ++ node ∷ [])) mode.Run) nodes ≡ map (λ _. Some (record { operation = 2 + length before; code = c })) nodes
 
 -- V1: arith.addf is no operation
 abbrev pub Unknown : Type 0
