@@ -13,7 +13,8 @@ use Rattle.av_dialects.specs.Rows.{predicates}
 use Rattle.av_form_laws.specs.Examples.{CastExamples, LineExamples, MarkExamples, OperandExamples, TypedExamples, WordsFit}
 use Rattle.av_form_laws.proofs.WholeLoop.{loop-examples}
 use Rattle.av_form_laws.proofs.LoopExamples.{access-examples, bound-examples, carried-examples, else-examples, region-examples, result-examples, step-examples}
-use Rattle.av_form_laws.proofs.Entries.{out-hash, out-number, value-of}
+use Rattle.av_form_laws.proofs.Entries.{out-hash, out-number}
+use Rattle.av_values.proofs.Entries.{value-of}
 use Rattle.av_form_laws.specs.Properties.{first_word, is_word_of, long, place_in, word_at, word_entry, word_in}
 use Rattle.av_values.specs.Gifts.{Line}
 

@@ -27,7 +27,8 @@ use Rattle.av_form_laws.specs.Subscripts.{map_in, numbered_map, numbered_values,
 use Rattle.av_form_laws.specs.Grammar.{else_words, in_square, iter_words, step_words}
 use Rattle.av_form_laws.specs.Rows.{FitsRow, words_of}
 use Rattle.av_form_laws.specs.Words.{between_commas, region, single, subscript, value, variable}
-use Rattle.av_form_laws.proofs.Entries.{first-applied, out-array, out-map, step-first}
+use Rattle.av_form_laws.proofs.Entries.{first-applied, out-map, step-first}
+use Rattle.av_values.proofs.Entries.{out-array}
 use Rattle.av_values.specs.Gifts.{Line, all_written, args_in, end_of, first_numbers, with_args_in, with_last}
 
 -- ---- regions

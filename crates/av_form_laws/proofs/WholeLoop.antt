@@ -19,7 +19,8 @@ use Rattle.av_form_laws.specs.Reading.{loop_form}
 use Rattle.av_form_laws.specs.Rows.{Whole, blank, head_of, words_of}
 use Rattle.av_form_laws.specs.Values.{Of}
 use Rattle.av_form_laws.specs.Words.{Word, lead_words}
-use Rattle.av_form_laws.proofs.Entries.{out-array, out-map, step-first}
+use Rattle.av_form_laws.proofs.Entries.{out-map, step-first}
+use Rattle.av_values.proofs.Entries.{out-array}
 use Rattle.av_form_laws.proofs.LoopExamples.{args-are, end-stays, nodes-are, others-are, region-is, written-end, yield}
 use Rattle.av_values.specs.Gifts.{Line, all_written, args_in, sizes_entry, unwritten, with_args_in, with_last}
 

@@ -6,3 +6,4 @@ pub mod Numbered
 pub mod Faithful
 pub mod OneTree
 pub mod Taking
+pub mod Entries
