@@ -6,10 +6,10 @@ mod expressions;
 mod forms;
 mod maps;
 mod operands;
-mod steps;
+mod loops;
 
 pub use entries::has_good_entries;
 pub use expressions::{is_affine, is_few};
 pub use forms::has_needed;
 pub use maps::{has_arity, has_roles};
-pub use steps::steps;
+pub use loops::steps;
