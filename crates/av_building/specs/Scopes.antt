@@ -7,7 +7,7 @@ use Rattle.av_ir.specs.declared.module.ValueId.{ValueId}
 use Rattle.av_ir.specs.declared.ty.Ty.{Ty}
 use Rattle.av_maps.specs.Applying.{value_of}
 use Rattle.av_maps.specs.declared.roles.Role.{Role}
-use Rattle.av_rules.specs.Names.{is_among}
+use Rattle.av_rules.specs.Names.{differ, is_among}
 use Rattle.av_rules.specs.Scopes.{Scope, Visible}
 use Rattle.av_elaboration.specs.Kinds.{Binding}
 use Rattle.av_building.specs.declared.names.Meaning.{Meaning}
@@ -40,6 +40,10 @@ meaning_in entries name = option_map (λ e. e.meaning) (find (λ e. bytes_eq e.n
 -- the name isn't defined yet
 abbrev pub is_defined : List Entry → List ℕ → Bool
 is_defined entries name = is_among (map (λ e. e.name) entries) name
+
+-- no name is defined twice
+abbrev pub all_differ : List Entry → Bool
+all_differ entries = differ (map (λ e. e.name) entries)
 
 -- definitions one after the other, in front of those before them: each name stands for the next value, of a type and a role
 abbrev pub defined : List Entry → ℕ → List (List ℕ) → List (Option Ty) → List Role → List Entry

@@ -28,14 +28,13 @@ pub struct Names {
 
 impl Model for Names {
     ghost use Rattle.std.specs.Prelude.{List, map, reverse, ◌≡◌, true};
-    ghost use Rattle.av_rules.specs.Names.{differ};
-    ghost use Rattle.av_building.specs.Scopes.{Entry, entry};
+    ghost use Rattle.av_building.specs.Scopes.{Entry, all_differ, entry};
 
     ghost Value = { List Entry };
 
     ghost view = { λ n. reverse (map (λ e. entry e.0.items e.1) n.index.entries) };
 
-    ghost invariant = { λ n. differ (map (λ e. e.0.items) n.index.entries) ≡ true };
+    ghost invariant = { λ n. all_differ (reverse (map (λ e. entry e.0.items e.1) n.index.entries)) ≡ true };
 }
 
 impl Names {
