@@ -10,6 +10,7 @@ mod in_place;
 mod results;
 mod rows;
 mod segments;
+mod slices;
 mod type_views;
 mod typing;
 mod views;
@@ -22,6 +23,7 @@ pub use in_place::{is_in_place, same_ending};
 pub use results::{ResultTypes, part_at, result_at, result_count, result_types};
 pub use rows::signature_named;
 pub use segments::{Segments, segments_of};
+pub use slices::{first_of, rest_of};
 pub use type_views::{
     ExtentsView, SizesView, TypeView, element_of, extent_at, extent_count, is_memref, is_plain,
     is_vector, part_of, rank_of, size_at, size_count, spelled, view_of, with_elements,
