@@ -114,7 +114,7 @@ putting operands = acts (codes "memref.store") operands []
 abbrev pub sizing : List BodyArg → TypeText → Node
 sizing operands t = gives (codes "memref.dim") operands [] t
 
--- an index for each dimension; where no memref is written, the number of indices isn't asked
+-- an index for each dimension, and the element of the buffer; a size is an index
 abbrev pub PlainAccess : Type 0
 PlainAccess =
     EachTaken [] (fetching (cells ∷ place ∷ []) i32 ∷ putting (word ∷ cells ∷ place ∷ []) ∷ sizing (cells ∷ place ∷ []) index ∷ [])
@@ -183,7 +183,8 @@ MaskedAccess =
     × EachRefused values (flat_map (λ operands. fetching_some operands four ∷ putting_some operands ∷ [])
     ((cells ∷ place ∷ lanes ∷ []) ∷ (cells ∷ flags ∷ lanes ∷ []) ∷ (cells ∷ place ∷ place ∷ flags ∷ lanes ∷ []) ∷ [])) 2
     × EachRefused values (acts (codes "vector.maskedload") (cells ∷ place ∷ flags ∷ lanes ∷ []) [] ∷ gives (codes "vector.maskedstore") (cells ∷ place ∷ flags ∷ lanes ∷ []) [] four ∷ []) 3
-    × EachRefused values (fetching_some (cells ∷ place ∷ flags ∷ lanes ∷ []) truths ∷ map putting_some disagreeing ++ map (λ operands. fetching_some operands four) disagreeing) 6
+    × EachRefused values (fetching_some (cells ∷ place ∷ flags ∷ lanes ∷ []) truths ∷ fetching_some (cells ∷ place ∷ flags ∷ flags ∷ []) truths
+    ∷ fetching_some (cells ∷ place ∷ flags ∷ word ∷ []) i32 ∷ map putting_some disagreeing ++ map (λ operands. fetching_some operands four) disagreeing) 6
     × IsRefused (body_over cell (values ++ fetching_some (arg (codes "%A") cell ∷ flags ∷ lanes ∷ []) four ∷ [])) 6 6
     × IsRefused (body_over cell (values ++ putting_some (arg (codes "%A") cell ∷ flags ∷ lanes ∷ []) ∷ [])) 6 6
 

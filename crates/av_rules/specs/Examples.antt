@@ -19,14 +19,19 @@ IsTaken tree = least tree mode.Run ≡ None
 abbrev pub IsRefused : Tree → ℕ → ℕ → Type 0
 IsRefused tree k c = least tree mode.Run ≡ Some (record { operation = k; code = c })
 
--- each of these operations is taken in a function's body, behind those before it
-abbrev pub EachTaken : List Node → List Node → Type 0
-EachTaken before nodes = map (λ node. least (body (before ++ node ∷ [])) mode.Run) nodes ≡ map (λ _. None) nodes
+-- the same of each of some trees
+abbrev pub AreTaken : List Tree → Type 0
+AreTaken trees = map (λ tree. least tree mode.Run) trees ≡ map (λ _. None) trees
 
--- each of them is refused there for this code
+abbrev pub AreRefused : List Tree → ℕ → ℕ → Type 0
+AreRefused trees k c = map (λ tree. least tree mode.Run) trees ≡ map (λ _. Some (record { operation = k; code = c })) trees
+
+-- each of some operations is taken in a function's body, behind those before it; and each is refused there for a code
+abbrev pub EachTaken : List Node → List Node → Type 0
+EachTaken before nodes = AreTaken (map (λ node. body (before ++ node ∷ [])) nodes)
+
 abbrev pub EachRefused : List Node → List Node → ℕ → Type 0
-EachRefused before nodes c =
-    map (λ node. least (body (before ++ node ∷ [])) mode.Run) nodes ≡ map (λ _. Some (record { operation = 2 + length before; code = c })) nodes
+EachRefused before nodes c = AreRefused (map (λ node. body (before ++ node ∷ [])) nodes) (2 + length before) c
 
 -- V1: arith.addf is no operation
 abbrev pub Unknown : Type 0
