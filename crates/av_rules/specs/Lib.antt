@@ -17,5 +17,9 @@ pub mod Fails
 pub mod Trees
 pub mod Examples
 pub mod RowExamples
+pub mod ScalarExamples
+pub mod BufferExamples
+pub mod VectorExamples
+pub mod RegionExamples
 pub mod EdgeExamples
 pub mod Walks

@@ -1,5 +1,5 @@
 -- Operations that have regions, and those that end regions: each is taken, and refused for each thing that is asked of it.
-use Rattle.std.specs.Prelude.{ℕ, ℤ, ◌≡◌, not, pos, negsuc, List, [], ◌∷◌, ◌++◌, map, None, Some, codes}
+use Rattle.std.specs.Prelude.{ℕ, ℤ, ◌≡◌, not, pos, true, List, [], ◌∷◌, ◌++◌, map, None, Some, codes}
 use Rattle.std.specs.List.{filter}
 use Rattle.av_tree.specs.declared.attribute.Attr.{Attr}
 use Rattle.av_tree.specs.declared.attribute.Attr.TheVariants as attr
@@ -12,7 +12,7 @@ use Rattle.av_tree.specs.declared.written.ExprText.{ExprText}
 use Rattle.av_tree.specs.declared.written.ExprText.TheVariants as expr
 use Rattle.av_tree.specs.declared.written.TypeText.{TypeText, Func'}
 use Rattle.av_rules.specs.Entries.{is_entry}
-use Rattle.av_rules.specs.Examples.{EachRefused, EachTaken, IsRefused, IsTaken}
+use Rattle.av_rules.specs.Examples.{AreRefused, AreTaken, EachRefused, EachTaken, IsRefused, IsTaken}
 use Rattle.av_rules.specs.RowExamples.{i64}
 use Rattle.av_rules.specs.Trees.{acts, arg, body, bound, buffer, cells, constant, d0, entry, four, gives, i32, index, load, loop, map_over, named_results, number, operation, place, region, row_of_types, shape, terminator, tree_of, word, yield}
 
@@ -123,18 +123,19 @@ to_four carried = bounds (bound (pos 0)) (bound (pos 4)) (pos 0 ∷ pos 0 ∷ ca
 abbrev pub no_result : Attr
 no_result = attr.Map (record { dims = []; syms = []; results = [] })
 
-abbrev pub i : BodyArg
-i = arg (codes "%i") index
+-- the arguments of a region: the number of a turn, and what is carried
+abbrev pub counter : BodyArg
+counter = arg (codes "%i") index
 
-abbrev pub t : BodyArg
-t = arg (codes "%t") i32
+abbrev pub running : BodyArg
+running = arg (codes "%t") i32
 
 abbrev pub yielding : List BodyArg → Node
 yielding operands = ending (codes "affine.yield") operands
 
 -- a loop with these operands and properties, that carries nothing
 abbrev pub turning : List BodyArg → List Named → Node
-turning operands properties = holding [] (codes "affine.for") operands properties (region (i ∷ []) (yield ∷ []) ∷ []) []
+turning operands properties = holding [] (codes "affine.for") operands properties (region (counter ∷ []) (yield ∷ []) ∷ []) []
 
 -- at least one result for each bound, of its own operands, which are dimensions or symbols
 abbrev pub LoopBounds : Type 0
@@ -164,45 +165,47 @@ both f = f (codes "affine.for") [] (to_four (pos 1)) (codes "affine.yield") ∷ 
 -- `index` and what is carried are the arguments, and what is carried is handed on and is the result; buffers aren't carried
 abbrev pub Carrying : Type 0
 Carrying =
-    EachTaken [] (both (λ name needed properties end. carrying name (needed ++ word ∷ []) properties (i ∷ t ∷ []) (ending end (t ∷ []) ∷ [])))
-    × EachRefused [] (both (λ name needed properties end. holding [] name (needed ++ word ∷ []) properties (region (i ∷ t ∷ []) (ending end (t ∷ []) ∷ []) ∷ []) [])) 3
-    × EachRefused [] (both (λ name needed properties end. carrying name (needed ++ word ∷ []) properties (i ∷ arg (codes "%t") i64 ∷ []) (ending end (t ∷ []) ∷ []))
-    ++ both (λ name needed properties end. carrying name (needed ++ word ∷ []) properties (arg (codes "%i") i32 ∷ t ∷ []) (ending end (t ∷ []) ∷ []))
-    ++ both (λ name needed properties end. carrying name (needed ++ place ∷ []) properties (i ∷ t ∷ []) (ending end (t ∷ []) ∷ []))
+    EachTaken [] (both (λ name needed properties end. carrying name (needed ++ word ∷ []) properties (counter ∷ running ∷ []) (ending end (running ∷ []) ∷ [])))
+    × EachRefused [] (both (λ name needed properties end. holding [] name (needed ++ word ∷ []) properties (region (counter ∷ running ∷ []) (ending end (running ∷ []) ∷ []) ∷ []) [])) 3
+    × EachRefused [] (both (λ name needed properties end. carrying name (needed ++ word ∷ []) properties (counter ∷ arg (codes "%t") i64 ∷ []) (ending end (running ∷ []) ∷ []))
+    ++ both (λ name needed properties end. carrying name (needed ++ word ∷ []) properties (arg (codes "%i") i32 ∷ running ∷ []) (ending end (running ∷ []) ∷ []))
+    ++ both (λ name needed properties end. carrying name (needed ++ place ∷ []) properties (counter ∷ running ∷ []) (ending end (running ∷ []) ∷ []))
     ++ both (λ name needed properties end. holding (codes "%r" ∷ []) name (needed ++ cells ∷ []) properties
-    (region (i ∷ arg (codes "%t") buffer ∷ []) (ending end (arg (codes "%t") buffer ∷ []) ∷ []) ∷ []) (buffer ∷ []))) 6
-    × EachRefused [] (both (λ name needed properties end. carrying name (needed ++ word ∷ []) properties (i ∷ t ∷ []) [])
-    ++ both (λ name needed properties end. carrying name (needed ++ word ∷ []) properties (i ∷ t ∷ []) (ending (codes "func.return") (t ∷ []) ∷ []))
-    ++ carrying (codes "affine.for") (word ∷ []) (to_four (pos 1)) (i ∷ t ∷ []) (ending (codes "scf.yield") (t ∷ []) ∷ [])
-    ∷ carrying (codes "scf.for") (three_places ++ word ∷ []) [] (i ∷ t ∷ []) (yielding (t ∷ []) ∷ []) ∷ []) 12
-    × EachRefused [] (both (λ name needed properties end. carrying name (needed ++ word ∷ []) properties (i ∷ []) (ending end (word ∷ []) ∷ []))
+    (region (counter ∷ arg (codes "%t") buffer ∷ []) (ending end (arg (codes "%t") buffer ∷ []) ∷ []) ∷ []) (buffer ∷ []))) 6
+    × EachRefused [] (both (λ name needed properties end. carrying name (needed ++ word ∷ []) properties (counter ∷ running ∷ []) [])
+    ++ both (λ name needed properties end. carrying name (needed ++ word ∷ []) properties (counter ∷ running ∷ []) (ending (codes "func.return") (running ∷ []) ∷ []))
+    ++ carrying (codes "affine.for") (word ∷ []) (to_four (pos 1)) (counter ∷ running ∷ []) (ending (codes "scf.yield") (running ∷ []) ∷ [])
+    ∷ carrying (codes "scf.for") (three_places ++ word ∷ []) [] (counter ∷ running ∷ []) (yielding (running ∷ []) ∷ []) ∷ []) 12
+    × EachRefused [] (both (λ name needed properties end. carrying name (needed ++ word ∷ []) properties (counter ∷ []) (ending end (word ∷ []) ∷ []))
     ++ both (λ name needed properties end. holding (codes "%r" ∷ []) name (needed ++ word ∷ []) properties [] (i32 ∷ []))) 13
 
 -- ---- terminators of loops
 -- both loops, carrying a number as %t, with these operations in the region of each
 abbrev pub in_loops : (List ℕ → List Node) → List Tree
 in_loops f =
-    map (λ node. body (node ∷ [])) (both (λ name needed properties end. carrying name (needed ++ word ∷ []) properties (i ∷ t ∷ []) (f end)))
+    map (λ node. body (node ∷ [])) (both (λ name needed properties end. carrying name (needed ++ word ∷ []) properties (counter ∷ running ∷ []) (f end)))
 
 -- in a loop that carries a number, each kind of terminator with other operands than that number, with a result, and before the end
 abbrev pub LoopEnds : Type 0
 LoopEnds =
-    AreRefused (in_loops (λ end. ending end [] ∷ []) ++ in_loops (λ end. ending end (t ∷ t ∷ []) ∷ [])) 3 2
-    × AreRefused (in_loops (λ end. gives end (t ∷ []) [] i32 ∷ [])) 3 3
-    × AreRefused (in_loops (λ end. ending end (i ∷ []) ∷ [])) 3 6
-    × AreRefused (in_loops (λ end. acts end (t ∷ []) (entry (codes "value") attr.Unit ∷ []) ∷ [])) 3 8
-    × AreRefused (in_loops (λ end. ending end (t ∷ []) ∷ ending end (t ∷ []) ∷ [])) 3 12
+    AreRefused (in_loops (λ end. ending end [] ∷ []) ++ in_loops (λ end. ending end (running ∷ running ∷ []) ∷ [])) 3 2
+    × AreRefused (in_loops (λ end. gives end (running ∷ []) [] i32 ∷ [])) 3 3
+    × AreRefused (in_loops (λ end. ending end (counter ∷ []) ∷ [])) 3 6
+    × AreRefused (in_loops (λ end. acts end (running ∷ []) (entry (codes "value") attr.Unit ∷ []) ∷ [])) 3 8
+    × AreRefused (in_loops (λ end. ending end (running ∷ []) ∷ ending end (running ∷ []) ∷ [])) 3 12
 
 -- ---- counted loops
 -- a loop from, to and by three values, that carries nothing
-abbrev pub counting : List BodyArg → Node
-counting operands = holding [] (codes "scf.for") operands [] (region (i ∷ []) (terminator (codes "scf.yield") ∷ []) ∷ []) []
+abbrev pub counting : List BodyArg → List Named → Node
+counting operands properties = holding [] (codes "scf.for") operands properties (region (counter ∷ []) (terminator (codes "scf.yield") ∷ []) ∷ []) []
 
+-- the step is a value, and no property
 abbrev pub CountedLoops : Type 0
 CountedLoops =
-    EachRefused [] (counting (place ∷ place ∷ []) ∷ []) 2
-    × EachRefused [] (counting (word ∷ place ∷ place ∷ []) ∷ counting (place ∷ word ∷ place ∷ []) ∷ counting (place ∷ place ∷ word ∷ []) ∷ []) 6
-    × EachRefused [] (holding [] (codes "scf.for") three_places (entry (codes "step") (number (pos 1) index) ∷ []) (region (i ∷ []) (terminator (codes "scf.yield") ∷ []) ∷ []) [] ∷ []) 8
+    EachTaken [] (counting three_places [] ∷ counting three_places (entry (codes "affvec.loop") (number (pos 7) i64) ∷ []) ∷ [])
+    × EachRefused [] (counting (place ∷ place ∷ []) [] ∷ []) 2
+    × EachRefused [] (counting (word ∷ place ∷ place ∷ []) [] ∷ counting (place ∷ word ∷ place ∷ []) [] ∷ counting (place ∷ place ∷ word ∷ []) [] ∷ []) 6
+    × EachRefused [] (counting three_places (entry (codes "step") (number (pos 1) index) ∷ []) ∷ counting three_places (entry (codes "affvec.loop") attr.Unit ∷ []) ∷ []) 8
 
 -- ---- choices
 abbrev pub set_over : ExprText → Attr
@@ -220,7 +223,7 @@ abbrev pub deciding : List BodyArg → List Named → List Body → Node
 deciding operands properties regions = holding [] (codes "affine.if") operands properties regions []
 
 abbrev pub choosing : TypeText → Body → Body → Node
-choosing u yes otherwise = holding (codes "%r" ∷ []) (codes "affine.if") (place ∷ []) is_zero (yes ∷ otherwise ∷ []) (u ∷ [])
+choosing u first second = holding (codes "%r" ∷ []) (codes "affine.if") (place ∷ []) is_zero (first ∷ second ∷ []) (u ∷ [])
 
 abbrev pub gives_word : Body
 gives_word = region [] (yielding (word ∷ []) ∷ [])
@@ -238,7 +241,7 @@ Branching =
     × EachRefused [] (deciding (place ∷ []) is_zero (ends_here ∷ region [] (terminator (codes "scf.yield") ∷ []) ∷ [])
     ∷ deciding (place ∷ []) is_zero (region [] (returning [] ∷ []) ∷ ends_here ∷ []) ∷ []) 12
     × EachRefused [] (deciding (place ∷ []) is_zero (ends_here ∷ []) ∷ deciding (place ∷ []) is_zero (ends_here ∷ ends_here ∷ ends_here ∷ [])
-    ∷ deciding (place ∷ []) is_zero (region (i ∷ []) (yield ∷ []) ∷ ends_here ∷ []) ∷ []) 13
+    ∷ deciding (place ∷ []) is_zero (region (counter ∷ []) (yield ∷ []) ∷ ends_here ∷ []) ∷ []) 13
     × EachRefused [] (deciding (place ∷ []) (entry (codes "condition") (set_over (expr.Mul d0 d0)) ∷ []) (ends_here ∷ ends_here ∷ []) ∷ []) 15
     × AreRefused (body (choosing i32 ends_here gives_word ∷ []) ∷ []) 3 2 × AreRefused (body (choosing i32 (region [] (yielding (place ∷ []) ∷ [])) gives_word ∷ []) ∷ []) 3 6
     × AreRefused (body (choosing i32 gives_word ends_here ∷ []) ∷ []) 4 2 × AreRefused (body (choosing i32 gives_word (region [] (yielding (place ∷ []) ∷ [])) ∷ []) ∷ []) 4 6

@@ -1,9 +1,13 @@
 //! What holds of the definitions as a whole, for the proofs of callers. These functions do nothing.
 
+ghost use Rattle.av_rules.specs.BufferExamples.{BufferExamples};
 ghost use Rattle.av_rules.specs.EdgeExamples.{EdgeExamples};
 ghost use Rattle.av_rules.specs.Examples.{RuleExamples};
 ghost use Rattle.av_rules.specs.Fails.{LeastLaw};
+ghost use Rattle.av_rules.specs.RegionExamples.{RegionExamples};
 ghost use Rattle.av_rules.specs.RowExamples.{RowExamples};
+ghost use Rattle.av_rules.specs.ScalarExamples.{ScalarExamples};
+ghost use Rattle.av_rules.specs.VectorExamples.{VectorExamples};
 ghost use Rattle.av_rules.specs.Views.{ViewsLaw};
 ghost use Rattle.av_rules.specs.Walks.{AllSitesLaw};
 
@@ -21,6 +25,29 @@ pub fn some_trees()
 /// For most operations a tree that is taken, and one that is refused.
 pub fn some_operations()
     ensures { RowExamples }
+{}
+
+/// Each operation of arith is taken, and refused for each thing that is asked of it.
+pub fn scalar_operations()
+    ensures { ScalarExamples }
+{}
+
+/// Each operation with affine maps and each that touches a buffer is taken, and refused for each thing that
+/// is asked of it.
+pub fn buffer_operations()
+    ensures { BufferExamples }
+{}
+
+/// Each operation that makes vectors or takes them apart is taken, and refused for each thing that is asked
+/// of it.
+pub fn vector_operations()
+    ensures { VectorExamples }
+{}
+
+/// The module, functions, loops, choices and what ends their regions are taken, and refused for each thing
+/// that is asked of them.
+pub fn region_operations()
+    ensures { RegionExamples }
 {}
 
 /// At the edges of limits, and where two things are wrong, trees that are taken or refused as is said.
