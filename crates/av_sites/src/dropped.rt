@@ -42,7 +42,7 @@ fn has_dot(name: &[u8]) -> bool
 }
 
 fn is_word(words: &[&str], name: &[u8]) -> bool
-    ensures { result ≡ list_any (λ word. bytes_eq name word.now) words.now }
+    ensures { result ≡ list_any (λ word. bytes_eq name.now word.now) words.now }
 {
     words.iter().any(|word| name == word.as_bytes())
 }

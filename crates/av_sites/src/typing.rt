@@ -1,6 +1,6 @@
 //! The types at the places of an operation, and those of the values that a loop carries.
 
-ghost use Rattle.std.specs.Prelude.{◌≡◌, drop, option_map, take};
+ghost use Rattle.std.specs.Prelude.{◌≡◌, option_map};
 ghost use Rattle.std.specs.List.{list_any};
 ghost use Rattle.std.specs.Option.{option_copied};
 ghost use Rattle.av_rules.specs.Places.{operand_types};
@@ -10,6 +10,7 @@ ghost use Rattle.av_sites.specs.Rows.{row_with};
 ghost use Rattle.av_sites.specs.TypeViews.{type_seen};
 
 use super::segments::segments_of;
+use super::slices::{first_of, rest_of};
 use super::type_views::{TypeView, spelled, view_of};
 use super::views::out_types;
 use av_ir::Ty;
@@ -120,31 +121,9 @@ pub fn carried_types<'t>(
 {
     if has_segments(row) {
         let segments = segments_of(node)?;
-        let behind = types_from(types_from(types, segments.lower), segments.upper);
-        Some(first_types(behind, segments.carried))
+        let behind = rest_of(rest_of(types, segments.lower), segments.upper);
+        Some(first_of(behind, segments.carried))
     } else {
-        Some(types_from(types, least(row.operands) as u128))
-    }
-}
-
-// The types from a place on.
-fn types_from(types: &[Option<Ty>], from: u128) -> &[Option<Ty>]
-    ensures { result.now ≡ drop from types.now }
-{
-    if from < types.len() as u128 {
-        &types[from as usize..]
-    } else {
-        &types[types.len()..]
-    }
-}
-
-// So many of the types.
-fn first_types(types: &[Option<Ty>], many: u128) -> &[Option<Ty>]
-    ensures { result.now ≡ take many types.now }
-{
-    if many < types.len() as u128 {
-        &types[..many as usize]
-    } else {
-        types
+        Some(rest_of(types, least(row.operands) as u128))
     }
 }
