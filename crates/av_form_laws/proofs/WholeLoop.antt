@@ -11,11 +11,10 @@ use Rattle.av_dialects.specs.declared.item.Lead.TheVariants as lead
 use Rattle.av_dialects.specs.declared.item.Results.TheVariants as results
 use Rattle.av_dialects.specs.Rows.{Part}
 use Rattle.av_dialects.specs.Types.{needs}
-use Rattle.av_form_laws.specs.Examples.{LoopExamples, a, b, body, c, end, loop_words, typed_arg, whole_loop}
+use Rattle.av_form_laws.specs.Examples.{LoopExamples, a, b, body, c, end, loop_form, loop_words, typed_arg, whole_loop}
 use Rattle.av_form_laws.specs.Grammar.{spell}
 use Rattle.av_form_laws.specs.Items.{AreWanted, Fits, applied_entry, rest, taken}
 use Rattle.av_form_laws.specs.Loops.{args_of, first_name, inits_of, number_map, paired, step_entry, types_of, value_map, written_in}
-use Rattle.av_form_laws.specs.Reading.{loop_form}
 use Rattle.av_form_laws.specs.Rows.{Whole, blank, head_of, words_of}
 use Rattle.av_form_laws.specs.Values.{Of}
 use Rattle.av_form_laws.specs.Words.{Word, lead_words}

@@ -10,7 +10,7 @@ pub fn forms_are_read_as_printed()
     ensures { FormLaw }
 {}
 
-/// For loops, branches, uses of maps, loads and stores this operation is the one that the format's rows are defined to make of the same values.
+/// This operation is the one that the row of the operation is defined to make of the same values.
 pub fn forms_make_what_rows_make()
     ensures { ReadingLaw }
 {}
