@@ -1,6 +1,6 @@
 //! Which entries an operation may have.
 
-ghost use Rattle.std.specs.Prelude.{◌≡◌, ◌++◌, count_by, find, option_map};
+ghost use Rattle.std.specs.Prelude.{◌≡◌, ◌==◌, count_by, find, option_map};
 ghost use Rattle.std.specs.Str.{bytes_eq};
 ghost use Rattle.av_rules.specs.Entries.{is_entry, is_good, kept, property_named};
 ghost use Rattle.av_rules.specs.Properties.{has_good_entries};
