@@ -1,6 +1,6 @@
 -- Names as the rules see them, and as operations of a module are made from them.
 use Rattle.std.proofs.Common.{◌≡◌, ◌∙◌, ℕ, Bool, true, false, cond, List, [], ◌∷◌, map, Option, Some, None, Bor, refl, ap, sym}
-use Rattle.std.specs.Prelude.{is_some, unwrap_or}
+use Rattle.std.specs.Prelude.{is_some}
 use Rattle.std.specs.List.{find}
 use Rattle.std.specs.Option.{option_copied, option_and_then, option_map, option_map_or}
 use Rattle.std.specs.Str.{bytes_eq}
@@ -13,8 +13,8 @@ use Rattle.av_rules.specs.Scopes.{is_visible, role_named, type_named}
 use Rattle.av_elaboration.specs.Kinds.{value_named}
 use Rattle.av_elaboration.specs.declared.tag.Tag.{Tag}
 use Rattle.av_elaboration.specs.declared.tag.Tag.TheVariants.{Module}
-use Rattle.av_elaboration.specs.declared.tags.TheConstants.{TAGS}
-use Rattle.av_elaboration.specs.Tags.{Tagged, tag_of, tagged}
+use Rattle.av_building.specs.TagsFound.{tag_found, tagged_by}
+use Rattle.av_elaboration.specs.Tags.{Tagged}
 use Rattle.av_building.specs.declared.names.Meaning.{Meaning}
 use Rattle.av_building.specs.Scopes.{Entry, bindings_of, bound, meaning_in, scope_of, seen}
 
@@ -65,19 +65,12 @@ module _ (es : List Entry) (name : List ℕ) where
       by (Some e) = refl
 
 -- ---- tags
-abbrev pub TagRow : Type 0
-TagRow = record { now : List ℕ } × Tag
-
-abbrev row_tagged : TagRow → Tagged
-row_tagged row = record { name = row.0.now; tag = row.1 }
-
-pub tag-found : (name : List ℕ)
-    → unwrap_or (option_map (λ (row : TagRow). row.1) (find (λ (row : TagRow). bytes_eq row.0.now name) TAGS.now)) Module ≡ tag_of name
-unfolding tagged
-tag-found name =
-    by (find (λ (row : TagRow). bytes_eq row.0.now name) TAGS.now)
-    ∙ ap (λ o. option_map_or (λ (t : Tagged). t.tag) o Module) (sym (find-map (λ (t : Tagged). bytes_eq t.name name) row_tagged TAGS.now))
+pub among : {X : Type 0} (f : X → List ℕ) (g : X → Tag) (rows : List X) (name : List ℕ)
+    → option_map_or (λ t. t) (option_map g (find (λ row. bytes_eq (f row) name) rows)) Module ≡ tag_found (map (λ row. tagged_by (f row) (g row)) rows) name
+among {X} f g rows name =
+    by (find (λ row. bytes_eq (f row) name) rows)
+    ∙ ap (λ o. option_map_or (λ (t : Tagged). t.tag) o Module) (sym (find-map (λ (t : Tagged). bytes_eq t.name name) (λ row. tagged_by (f row) (g row)) rows))
   where
-    by : (o : Option TagRow) → unwrap_or (option_map (λ (row : TagRow). row.1) o) Module ≡ option_map_or (λ (t : Tagged). t.tag) (option_map row_tagged o) Module
+    by : (o : Option X) → option_map_or (λ t. t) (option_map g o) Module ≡ option_map_or (λ (t : Tagged). t.tag) (option_map (λ row. tagged_by (f row) (g row)) o) Module
     by None = refl
     by (Some row) = refl

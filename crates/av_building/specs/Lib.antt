@@ -3,3 +3,4 @@ pub mod Constants
 pub mod Types
 pub mod Entries
 pub mod Doing
+pub mod TagsFound
