@@ -1,59 +1,58 @@
-//! Properties and attributes: which are needed, which are dropped, and what the others have to be.
+//! Which entries an operation may have.
 
-ghost use Rattle.std.specs.Prelude.{◌≡◌, if◌then◌else◌, is_some};
-ghost use Rattle.std.specs.List.{list_all};
-ghost use Rattle.std.specs.Char.{is_ascii_digit};
-ghost use Rattle.av_rules.specs.Entries.{entry_of, is_symbol_byte, is_symbol_text};
-ghost use Rattle.av_rules.specs.Properties.{has_needed};
+ghost use Rattle.std.specs.Prelude.{◌≡◌, ◌++◌, count_by, find, option_map};
+ghost use Rattle.std.specs.Str.{bytes_eq};
+ghost use Rattle.av_rules.specs.Entries.{is_entry, is_good, kept, property_named};
+ghost use Rattle.av_rules.specs.Properties.{has_good_entries};
 ghost use Rattle.av_sites.specs.Rows.{row_with};
 
-use av_signatures::{Property, Signature};
-use av_sites::entry;
-use av_tree::Node;
+use super::forms::{has_form, is_mark_value};
+use av_signatures::{Form, Property, Signature};
+use av_sites::{attrs, is_dropped, mark_name, properties};
+use av_tree::{Alias, Named, Node};
 
-/// Whether all properties that an operation needs are there.
-pub fn has_needed(row: &Signature, node: &Node) -> bool
-    ensures { (name : _) (site : _) → result ≡ has_needed (row_with name row.now) (record site { node = node.now }) }
+/// Whether each entry that isn't dropped is a property in its form or the mark, and stands once.
+pub fn has_good_entries(row: &Signature, node: &Node, aliases: &[Alias]) -> bool
+    ensures {
+        (name : _) (site : _)
+        → result ≡ has_good_entries (row_with name row.now) (record site { node = node.now; aliases = aliases.now })
+    }
 {
-    has_all(row.properties, node)
+    // Entries that are good have few names, so soon one doesn't stand once: they are counted a few times.
+    let mut entries = properties(node).iter().chain(attrs(node).iter());
+    entries.all(|entry| {
+        is_dropped(row, entry.name.as_slice())
+            || (is_good(aliases, row, entry) && is_once(row, node, entry.name.as_slice()))
+    })
 }
 
-fn has_all(properties: &[Property], node: &Node) -> bool
-    ensures { result ≡ list_all (λ property. is_some (entry_of property.0.now node.now)) properties.now }
+// Whether an entry is a property in its form, or the mark with a value of its form.
+fn is_good(aliases: &[Alias], row: &Signature, entry: &Named) -> bool
+    ensures { (name : _) → result ≡ is_good aliases.now (row_with name row.now) entry.now }
 {
-    properties
+    match form_named(row.properties, entry.name.as_slice()) {
+        Some(form) => has_form(aliases, form, &entry.value),
+        None => {
+            entry.name.as_slice() == mark_name(row.mark) && is_mark_value(row.mark, &entry.value)
+        }
+    }
+}
+
+// The form of the property of this name.
+fn form_named(properties: &[Property], name: &[u8]) -> Option<Form>
+    ensures { result ≡ option_map (λ property. property.1) (find (λ property. bytes_eq property.0.now name.now) properties.now) }
+{
+    let found = properties
         .iter()
-        .all(|property| entry(node, property.0.as_bytes()).is_some())
+        .find(|property| property.0.as_bytes() == name)?;
+    Some(found.1)
 }
 
-/// Whether a text is spelled as a symbol: digits alone, or another of its bytes and any of them.
-pub fn is_symbol_text(text: &[u8]) -> bool
-    ensures { result ≡ is_symbol_text text.now }
+// Whether one entry alone that isn't dropped has this name.
+fn is_once(row: &Signature, node: &Node, name: &[u8]) -> bool
+    ensures { (own : _) → result ≡ count_by (is_entry name.now) (kept (row_with own row.now) node.now) == 1 }
 {
-    match text {
-        [] => false,
-        [first, rest @ ..] => is_symbol_byte(*first) && go_on(*first, rest),
-    }
-}
-
-fn go_on(first: u8, rest: &[u8]) -> bool
-    ensures { result ≡ list_all (λ b. if is_ascii_digit first then is_ascii_digit b else is_symbol_byte b) rest.now }
-{
-    rest.iter().all(|b| goes_on(first, *b))
-}
-
-fn goes_on(first: u8, b: u8) -> bool
-    ensures { result ≡ (if is_ascii_digit first then is_ascii_digit b else is_symbol_byte b) }
-{
-    if first.is_ascii_digit() {
-        b.is_ascii_digit()
-    } else {
-        is_symbol_byte(b)
-    }
-}
-
-fn is_symbol_byte(b: u8) -> bool
-    ensures { result ≡ is_symbol_byte b }
-{
-    b.is_ascii_alphanumeric() || b == b'$' || b == b'.' || b == b'_' || b == b'-'
+    let entries = properties(node).iter().chain(attrs(node).iter());
+    let named = entries.filter(|entry| !is_dropped(row, entry.name.as_slice()) && entry.name.as_slice() == name);
+    named.count() == 1
 }

@@ -1,10 +1,15 @@
-//! What is asked of an operation, a function for each code: as far as it hangs on the operation alone and not on what is visible.
+//! What is asked of an operation's properties, a function for each code.
 #![tactic(auto)]
 
-mod counts;
 mod entries;
-mod properties;
+mod expressions;
+mod forms;
+mod maps;
+mod operands;
+mod loops;
 
-pub use counts::counts;
-pub use entries::{has_needed, is_symbol_text};
-pub use properties::steps;
+pub use entries::has_good_entries;
+pub use expressions::{is_affine, is_few};
+pub use forms::has_needed;
+pub use maps::{has_arity, has_roles};
+pub use loops::steps;

@@ -15,6 +15,7 @@ pub struct FunctionView<'t> {
 }
 
 /// The inputs and the results of a type that is a function type.
+#[tactic(auto, using(crate::proofs::FunctionTypes::functions))]
 pub fn function_in(ty: &TypeText) -> Option<FunctionView>
     ensures { option_map function_seen result ≡ function_in ty.now }
 {
@@ -23,7 +24,7 @@ pub fn function_in(ty: &TypeText) -> Option<FunctionView>
             inputs: inputs.as_slice(),
             results: results.as_slice(),
         }),
-        _ => None,
+        TypeText::Scalar(_) | TypeText::MemRef { .. } | TypeText::Vector { .. } => None,
     }
 }
 

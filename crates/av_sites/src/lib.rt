@@ -6,9 +6,10 @@ mod dropped;
 mod entries;
 mod functions;
 mod holders;
-mod results;
+mod typed_results;
 mod rows;
 mod segments;
+mod slices;
 mod type_views;
 mod typing;
 mod views;
@@ -17,9 +18,10 @@ pub use dropped::{is_dropped, is_function, is_module, mark_name};
 pub use entries::{array_in, entry, natural, number_in, numbers_in, text_in};
 pub use functions::{FunctionView, function_in, function_of};
 pub use holders::Holder;
-pub use results::{ResultTypes, part_at, result_at, result_count, result_types};
+pub use typed_results::{ResultTypes, part_at, result_at, result_count, result_types};
 pub use rows::signature_named;
 pub use segments::{Segments, segments_of};
+pub use slices::{first_of, rest_of};
 pub use type_views::{
     ExtentsView, SizesView, TypeView, element_of, extent_at, extent_count, is_memref, is_plain,
     is_vector, part_of, rank_of, size_at, size_count, spelled, view_of, with_elements,

@@ -8,6 +8,7 @@ ghost use Rattle.av_types.specs.Types.{extent_of, named_type};
 ghost use Rattle.av_types.specs.Relations.{element_of, is_memref, is_plain, is_vector, part_of, rank_of, sized, with_elements};
 ghost use Rattle.av_sites.specs.TypeViews.{extents_seen, sizes_seen, type_seen};
 
+use super::slices::rest_of;
 use av_ir::{Elem, Extent, Ty};
 use av_tree::{DimText, SizeText, TypeText};
 use av_types::{elem_of, is_type};
@@ -275,12 +276,12 @@ fn part<'t>(sizes: SizesView<'t>, scalable: bool, elem: Elem, positions: usize) 
 
 // The sizes from a place on.
 fn sizes_from<'t>(sizes: SizesView<'t>, from: usize) -> SizesView<'t>
-    requires { from < length (sizes_seen sizes.entry) }
+    requires { from < length (sizes_seen sizes) }
     ensures { sizes_seen result ≡ drop from (sizes_seen sizes.entry) }
 {
     match sizes {
-        SizesView::Taken(list) => SizesView::Taken(&list[from..]),
-        SizesView::Written(dims) => SizesView::Written(&dims[from..]),
+        SizesView::Taken(list) => SizesView::Taken(rest_of(list, from as u128)),
+        SizesView::Written(dims) => SizesView::Written(rest_of(dims, from as u128)),
         SizesView::Counted(_) => sizes,
     }
 }

@@ -1,8 +1,9 @@
 //! The types at the places of an operation, and those of the values that a loop carries.
 
-ghost use Rattle.std.specs.Prelude.{◌≡◌, drop, option_map, take};
+ghost use Rattle.std.specs.Prelude.{◌≡◌, ◌+◌, drop, option_map, take};
 ghost use Rattle.std.specs.List.{list_any};
 ghost use Rattle.std.specs.Option.{option_copied};
+ghost use Rattle.av_rules.specs.Entries.{segments_of};
 ghost use Rattle.av_rules.specs.Places.{operand_types};
 ghost use Rattle.av_rules.specs.Typing.{carried_count, carried_types, has_segments, is_segments, type_at, type_in, written_result};
 ghost use Rattle.av_signatures.specs.TableLaws.{least};
@@ -10,6 +11,7 @@ ghost use Rattle.av_sites.specs.Rows.{row_with};
 ghost use Rattle.av_sites.specs.TypeViews.{type_seen};
 
 use super::segments::segments_of;
+use super::slices::{first_of, rest_of};
 use super::type_views::{TypeView, spelled, view_of};
 use super::views::out_types;
 use av_ir::Ty;
@@ -101,9 +103,19 @@ pub fn carried_count(row: &Signature, node: &Node, types: &[Option<Ty>]) -> Opti
     }
 {
     if has_segments(row) {
-        Some(segments_of(node)?.carried)
+        parted_count(node)
     } else {
         Some(types.len().saturating_sub(least(row.operands)) as u128)
+    }
+}
+
+// The third of a loop's parts.
+fn parted_count(node: &Node) -> Option<u128>
+    ensures { result ≡ option_map (λ parts. parts.carried) (segments_of node.now) }
+{
+    match segments_of(node) {
+        Some(parts) => Some(parts.carried),
+        None => None,
     }
 }
 
@@ -119,32 +131,24 @@ pub fn carried_types<'t>(
     }
 {
     if has_segments(row) {
-        let segments = segments_of(node)?;
-        let behind = types_from(types_from(types, segments.lower), segments.upper);
-        Some(first_types(behind, segments.carried))
+        parted_types(node, types)
     } else {
-        Some(types_from(types, least(row.operands) as u128))
+        Some(rest_of(types, least(row.operands) as u128))
     }
 }
 
-// The types from a place on.
-fn types_from(types: &[Option<Ty>], from: u128) -> &[Option<Ty>]
-    ensures { result.now ≡ drop from types.now }
-{
-    if from < types.len() as u128 {
-        &types[from as usize..]
-    } else {
-        &types[types.len()..]
+// The types of the third of a loop's parts.
+fn parted_types<'t>(node: &Node, types: &'t [Option<Ty>]) -> Option<&'t [Option<Ty>]>
+    ensures {
+        option_map (λ list. list.now) result
+        ≡ option_map (λ parts. take parts.carried (drop (parts.lower + parts.upper) types.now)) (segments_of node.now)
     }
-}
-
-// So many of the types.
-fn first_types(types: &[Option<Ty>], many: u128) -> &[Option<Ty>]
-    ensures { result.now ≡ take many types.now }
 {
-    if many < types.len() as u128 {
-        &types[..many as usize]
-    } else {
-        types
+    match segments_of(node) {
+        Some(parts) => Some(first_of(
+            rest_of(rest_of(types, parts.lower), parts.upper),
+            parts.carried,
+        )),
+        None => None,
     }
 }

@@ -1,4 +1,4 @@
-//! Steps, and what maps and sets are made of.
+//! The steps of loops.
 
 ghost use Rattle.std.specs.Prelude.{◌≡◌};
 ghost use Rattle.std.specs.List.{list_all};
