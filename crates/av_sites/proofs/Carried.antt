@@ -1,7 +1,6 @@
 -- The values that a loop carries, where its operands are parted by a property and where they aren't.
-use Rattle.std.proofs.Common.{◌≡◌, ℕ, ◌+◌, ◌-◌, Bool, true, false, if◌then◌else◌, List, length, take, drop, Option, Some, refl}
+use Rattle.std.proofs.Common.{◌≡◌, ◌+◌, ◌-◌, Bool, true, false, if◌then◌else◌, length, take, drop, Some, refl}
 use Rattle.std.specs.Option.{option_map}
-use Rattle.av_ir.specs.declared.ty.Ty.{Ty}
 use Rattle.av_signatures.specs.TableLaws.{least}
 use Rattle.av_rules.specs.Entries.{segments_of}
 use Rattle.av_rules.specs.Places.{Site, operand_types}

@@ -1,5 +1,4 @@
-use Rattle.std.proofs.Common.{◌∙◌, ◌≡◌, ◌<◌, ℕ, subst, sym}
-use Rattle.av_dialects.specs.Rows.{HasName, number_of}
+use Rattle.std.proofs.Common.{◌∙◌, ◌<◌, subst, sym}
 use Rattle.av_sites.proofs.NamedRows.{counts-agree, named, unnamed}
 use Rattle.av_sites.proofs.rows.signature_named.Goals as goal
 
