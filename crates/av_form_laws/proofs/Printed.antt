@@ -144,7 +144,7 @@ module _ (choice : List ℕ) where
       or-words (alone m.dims m.syms m.results vs) _ (written_map m, vs) (λ w e. lone-bound m.dims m.syms m.results vs w e)
       (chosen-words m.results (written_map m) vs h)
   bound-gives (written_set s) vs h = cc
-  bound-gives (alias name) vs h = by_map (alias name) _ vs h (all-operands (dimensions_of (alias name) (length vs)) vs)
+  bound-gives (alias name) vs h = by_choice (alias name) _ vs h (all-operands (dimensions_of (alias name) (length vs)) vs)
 
 -- ---- steps, carried values, results and regions
 step-gives : (s : ℕ) → Gives item.Step (step_words s) s

@@ -186,7 +186,8 @@ choice_of choice _ = plain choice ∷ []
 abbrev pub bound_words : List ℕ → Applied → List (List ℕ) → List Word
 bound_words choice (written_map m) vs =
     or_else (alone m.dims m.syms m.results vs) (choice_of choice m.results ++ applied_words (written_map m) vs)
-bound_words choice a vs = applied_words a vs
+-- a name may be that of several results
+bound_words choice a vs = plain choice ∷ applied_words a vs
 
 abbrev pub step_words : ℕ → List Word
 step_words (suc zero) = []

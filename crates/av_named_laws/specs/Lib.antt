@@ -1,0 +1,4 @@
+pub mod Shown
+pub mod Stacks
+pub mod Legible
+pub mod Laws
