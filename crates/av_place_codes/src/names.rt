@@ -4,14 +4,14 @@ ghost use Rattle.std.specs.Prelude.{◌≡◌, ℕ, ◌==◌, ◌++◌, ◌*◌,
 ghost use Rattle.std.specs.List.{range_with_len};
 ghost use Rattle.std.specs.Fmt.{decimal};
 ghost use Rattle.av_rules.specs.Names.{colon, count_in, count_named, names_in, names_of, number_written, used_as};
-ghost use Rattle.av_place_codes.specs.Counted.{counted};
+ghost use Rattle.av_place_codes.specs.Held.{held};
 
 use av_affine::{Seq, Text};
 use std::alloc::{AllocError, Global};
 
 /// How many results texts name, if the number isn't past the greatest one.
 pub fn count_in(texts: &[Text]) -> Option<u128>
-    ensures { result ≡ counted (count_in texts.now) }
+    ensures { result ≡ held (count_in texts.now) }
 {
     let mut count = Some(0);
     for text in texts {
@@ -21,7 +21,7 @@ pub fn count_in(texts: &[Text]) -> Option<u128>
 }
 
 fn sum_of(count: Option<u128>, more: Option<u128>) -> Option<u128>
-    ensures { (m n : ℕ) → count ≡ counted m → more ≡ counted n → result ≡ counted (m + n) }
+    ensures { (m n : ℕ) → count ≡ held m → more ≡ held n → result ≡ held (m + n) }
 {
     match count {
         Some(count) => match more {
@@ -34,7 +34,7 @@ fn sum_of(count: Option<u128>, more: Option<u128>) -> Option<u128>
 
 /// How many results a text names, if the number isn't past the greatest one.
 pub(crate) fn count_named(text: &[u8]) -> Option<u128>
-    ensures { result ≡ counted (count_named text.now) }
+    ensures { result ≡ held (count_named text.now) }
 {
     match from_colon(text) {
         [] => Some(1),
@@ -65,7 +65,7 @@ fn from_colon(text: &[u8]) -> &[u8]
 
 // The number that digits write.
 fn number_written(digits: &[u8]) -> Option<u128>
-    ensures { result ≡ counted (number_written digits.now) }
+    ensures { result ≡ held (number_written digits.now) }
 {
     let mut number = Some(0);
     for digit in digits {
@@ -75,7 +75,7 @@ fn number_written(digits: &[u8]) -> Option<u128>
 }
 
 fn with_digit(number: Option<u128>, digit: u8) -> Option<u128>
-    ensures { (n : ℕ) → number ≡ counted n → result ≡ counted (n * 10 + (digit - 48)) }
+    ensures { (n : ℕ) → number ≡ held n → result ≡ held (n * 10 + (digit - 48)) }
 {
     let value = u128::from(digit.saturating_sub(b'0'));
     match number {
@@ -85,7 +85,7 @@ fn with_digit(number: Option<u128>, digit: u8) -> Option<u128>
 }
 
 fn add_digit(number: u128, value: u128) -> Option<u128>
-    ensures { result ≡ counted (number * 10 + value) }
+    ensures { result ≡ held (number * 10 + value) }
 {
     match number.checked_mul(10) {
         Some(tens) => tens.checked_add(value),

@@ -2,5 +2,5 @@
 use Rattle.std.specs.Prelude.{ℕ, ◌^◌, nat_lt, if◌then◌else◌, Option, Some, None}
 
 -- none where it is past the greatest number of 128 bits
-abbrev pub counted : ℕ → Option ℕ
-counted n = if nat_lt n (2 ^ 128) then Some n else None
+abbrev pub held : ℕ → Option ℕ
+held n = if nat_lt n (2 ^ 128) then Some n else None

@@ -1,0 +1,8 @@
+//! What holds of the walk over a tree, for the proofs of callers. These functions do nothing.
+
+ghost use Rattle.av_place_codes.specs.Trees.{WalkLaw};
+
+/// The operations of the walk over a tree are those of the tree, in its order.
+pub fn walk_is_in_order()
+    ensures { WalkLaw }
+{}
