@@ -13,8 +13,8 @@ use Rattle.av_sites.specs.declared.type_views.SizesView.{SizesView}
 use Rattle.av_sites.specs.declared.type_views.SizesView.TheVariants as sizes
 use Rattle.av_sites.specs.declared.type_views.TypeView.{TypeView}
 use Rattle.av_sites.specs.declared.type_views.TypeView.TheVariants as view
-use Rattle.av_sites.specs.declared.results.ResultTypes.{ResultTypes}
-use Rattle.av_sites.specs.declared.results.ResultTypes.TheVariants as results
+use Rattle.av_sites.specs.declared.typed_results.ResultTypes.{ResultTypes}
+use Rattle.av_sites.specs.declared.typed_results.ResultTypes.TheVariants as results
 
 -- the sizes of a vector type, and those of a memref type
 abbrev pub sizes_seen : SizesView → List ℕ

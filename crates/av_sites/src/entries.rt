@@ -11,7 +11,7 @@ use av_tree::{Attr, Named, Node, TypeText};
 pub fn entry<'t>(node: &'t Node, name: &[u8]) -> Option<&'t Attr>
     ensures { option_copied result ≡ entry_of name.now node.now }
 {
-    let entries = properties(node).iter().chain(attrs(node).iter());
+    let mut entries = properties(node).iter().chain(attrs(node).iter());
     let found = entries.find(|entry| entry.name.as_slice() == name)?;
     Some(&found.value)
 }

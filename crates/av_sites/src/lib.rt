@@ -7,11 +7,11 @@ mod entries;
 mod functions;
 mod holders;
 mod in_place;
-mod results;
 mod rows;
 mod segments;
 mod slices;
 mod type_views;
+mod typed_results;
 mod typing;
 mod views;
 
@@ -20,7 +20,6 @@ pub use entries::{array_in, entry, natural, number_in, numbers_in, text_in};
 pub use functions::{FunctionView, function_in, function_of};
 pub use holders::Holder;
 pub use in_place::{is_in_place, same_ending};
-pub use results::{ResultTypes, part_at, result_at, result_count, result_types};
 pub use rows::signature_named;
 pub use segments::{Segments, segments_of};
 pub use slices::{first_of, rest_of};
@@ -28,6 +27,7 @@ pub use type_views::{
     ExtentsView, SizesView, TypeView, element_of, extent_at, extent_count, is_memref, is_plain,
     is_vector, part_of, rank_of, size_at, size_count, spelled, view_of, with_elements,
 };
+pub use typed_results::{ResultTypes, part_at, result_at, result_count, result_types};
 pub use typing::{carried_count, carried_types, has_segments, least, type_at, type_in, written_result};
 pub use views::{
     args, attrs, in_types, name, nodes, operands, out_types, properties, regions, results,

@@ -1,13 +1,13 @@
 -- The row of a name, found by the number of the operation.
-use Rattle.std.proofs.Common.{◌≡◌, ◌∙◌, ℕ, zero, suc, Bool, true, false, List, [], ◌∷◌, map, Option, Some, None, option_map, refl, ap, sym, subst}
+use Rattle.std.proofs.Common.{◌≡◌, ◌∙◌, ℕ, suc, Bool, true, false, List, [], ◌∷◌, map, Option, Some, None, option_map, refl, ap, sym}
 use Rattle.std.specs.Prelude.{find, slice_get, if◌then◌else◌}
 use Rattle.std.specs.Option.{option_and_then}
 use Rattle.std.specs.Str.{bytes_eq}
-use Rattle.std.proofs.lemmas.Option.{none-some, same_Some, slice_get-map}
-use Rattle.av_dialects.specs.Rows.{number_of, place_in, names as dialect_names}
+use Rattle.std.proofs.lemmas.Option.{slice_get-map}
+use Rattle.av_dialects.specs.Rows.{number_of, place_in, names as dialect_names, row_count as dialect_count}
 use Rattle.av_rules.specs.Rows.{Row, row_of, rows}
 use Rattle.av_signatures.specs.declared.signature.Signature.{Signature}
-use Rattle.av_signatures.specs.Rows.{HasDemands, HasMark, HasOperands, HasProperties, HasRole, HasSource, demands, marks, names, operands, properties, property, roles, sources}
+use Rattle.av_signatures.specs.Rows.{HasDemands, HasMark, HasOperands, HasProperties, HasRole, HasSource, demands, marks, names, operands, properties, property, roles, row_count, sources}
 use Rattle.av_sites.specs.Rows.{row_with}
 
 -- ---- by number
@@ -16,16 +16,17 @@ behind-one : (r : Row) (rs : List Row) (place : Option ℕ)
 behind-one r rs None = refl
 behind-one r rs (Some k) = refl
 
+first-or : (r : Row) (rs : List Row) (name : List ℕ) (same : Bool)
+    → find (λ (q : Row). bytes_eq q.name name) rs ≡ option_and_then (λ k. slice_get rs k) (place_in (map (λ (q : Row). q.name) rs) name)
+    → (if same then Some r else find (λ (q : Row). bytes_eq q.name name) rs)
+    ≡ option_and_then (λ k. slice_get (r ∷ rs) k) (if same then Some 0 else option_map suc (place_in (map (λ (q : Row). q.name) rs) name))
+first-or r rs name true behind = refl
+first-or r rs name false behind = behind ∙ sym (behind-one r rs (place_in (map (λ (q : Row). q.name) rs) name))
+
 by-number : (rs : List Row) (name : List ℕ)
     → find (λ (r : Row). bytes_eq r.name name) rs ≡ option_and_then (λ k. slice_get rs k) (place_in (map (λ (r : Row). r.name) rs) name)
 by-number [] name = refl
-by-number (r ∷ rs) name = here (bytes_eq r.name name)
-  where
-    here : (same : Bool)
-        → (if same then Some r else find (λ (q : Row). bytes_eq q.name name) rs)
-        ≡ option_and_then (λ k. slice_get (r ∷ rs) k) (if same then Some 0 else option_map suc (place_in (map (λ (q : Row). q.name) rs) name))
-    here true = refl
-    here false = by-number rs name ∙ sym (behind-one r rs (place_in (map (λ (q : Row). q.name) rs) name))
+by-number (r ∷ rs) name = first-or r rs name (bytes_eq r.name name) (by-number rs name)
 
 -- ---- by columns
 same-row : (a b : Row) → a.name ≡ b.name → a.operands ≡ b.operands → a.source ≡ b.source → a.properties ≡ b.properties
@@ -40,7 +41,8 @@ same-row a b n o s p d r m =
 
 -- what a column has at a place is what the row has there
 column : {X : Type 0} (f : Row → X) (rs : List Row) (k : ℕ) (row : Row) (x : X) → slice_get rs k ≡ Some row → slice_get (map f rs) k ≡ Some x → f row ≡ x
-column f rs k row x e h = same_Some (sym (slice_get-map f rs k ∙ ap (option_map f) e) ∙ h)
+column f rs k row x e h =
+    let both : Some (f row) ≡ Some x = sym (slice_get-map f rs k ∙ ap (option_map f) e) ∙ h in cc
 
 -- the columns of the rows are those of the signatures
 names-are : map (λ (r : Row). r.name) rows ≡ names
@@ -50,6 +52,10 @@ names-are = refl
 names-agree : names ≡ dialect_names
 unfolding names dialect_names
 names-agree = refl
+
+pub counts-agree : dialect_count ≡ row_count
+unfolding dialect_count row_count
+counts-agree = refl
 
 operands-are : map (λ (r : Row). r.operands) rows ≡ operands
 unfolding rows operands
@@ -97,7 +103,9 @@ read f xs are k row x e h = column f rows k row x e (ap (λ ys. slice_get ys k) 
 is-row : (name : List ℕ) (k : ℕ) (s : Signature) → slice_get dialect_names k ≡ Some name → Has k s → (found : Option Row) → slice_get rows k ≡ found
     → slice_get rows k ≡ Some (row_with name s)
 is-row name k s n h None e =
-    absurd (none-some (sym (slice_get-map (λ (r : Row). r.name) rows k ∙ ap (option_map (λ (r : Row). r.name)) e) ∙ ap (λ ys. slice_get ys k) (names-are ∙ names-agree) ∙ n))
+    let there : None ≡ Some name =
+    sym (slice_get-map (λ (r : Row). r.name) rows k ∙ ap (option_map (λ (r : Row). r.name)) e) ∙ ap (λ ys. slice_get ys k) (names-are ∙ names-agree) ∙ n in
+    absurd (cc)
 is-row name k s n h (Some row) e =
     e ∙ ap Some (same-row row (row_with name s)
     (read (λ r. r.name) dialect_names (names-are ∙ names-agree) k row name e n)
