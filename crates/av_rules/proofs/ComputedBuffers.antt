@@ -24,15 +24,15 @@ extremes = (refl, refl, refl, refl, refl, refl, refl, refl, refl)
 
 affine-loads : AffineLoads
 unfolding rows is_of_scalar_mode dropped dropped_of_functions kinds predicates fields bodies_in inside nodes_in function_in types_listed operations_in operations_in_bodies operations_within operations_in_nodes sites_from types_in types_in_items types_in_entries nest_of nests_of has_own expr_of bound_found has_parameter node_count value_of parameters shape-the_row-ExprText-0 hidden-the_row-ExprText-0 shape-the_row-Expr-0 hidden-the_row-Expr-0 hidden
-affine-loads = (refl, refl, refl, refl, refl, refl, refl, refl, refl, refl, refl)
+affine-loads = (refl, refl, refl, refl, refl, refl, refl, refl, refl, refl, refl, refl)
 
 affine-stores : AffineStores
 unfolding rows is_of_scalar_mode dropped dropped_of_functions kinds predicates fields bodies_in inside nodes_in function_in types_listed operations_in operations_in_bodies operations_within operations_in_nodes sites_from types_in types_in_items types_in_entries nest_of nests_of has_own expr_of bound_found has_parameter node_count value_of parameters shape-the_row-ExprText-0 hidden-the_row-ExprText-0 shape-the_row-Expr-0 hidden-the_row-Expr-0 hidden
-affine-stores = (refl, refl, refl, refl, refl, refl, refl, refl, refl, refl, refl)
+affine-stores = (refl, refl, refl, refl, refl, refl, refl, refl, refl, refl, refl, refl)
 
 plain-access : PlainAccess
 unfolding rows is_of_scalar_mode dropped dropped_of_functions kinds predicates fields bodies_in inside nodes_in function_in types_listed operations_in operations_in_bodies operations_within operations_in_nodes sites_from types_in types_in_items types_in_entries nest_of nests_of has_own expr_of bound_found has_parameter node_count value_of parameters shape-the_row-ExprText-0 hidden-the_row-ExprText-0 shape-the_row-Expr-0 hidden-the_row-Expr-0 hidden
-plain-access = (refl, refl, refl, refl, refl, refl, refl)
+plain-access = (refl, refl, refl, refl, refl, refl, refl, refl)
 
 vector-access : VectorAccess
 unfolding rows is_of_scalar_mode dropped dropped_of_functions kinds predicates fields bodies_in inside nodes_in function_in types_listed operations_in operations_in_bodies operations_within operations_in_nodes sites_from types_in types_in_items types_in_entries nest_of nests_of has_own expr_of bound_found has_parameter node_count value_of parameters shape-the_row-ExprText-0 hidden-the_row-ExprText-0 shape-the_row-Expr-0 hidden-the_row-Expr-0 hidden

@@ -24,6 +24,10 @@ use Rattle.av_rules.specs.Trees.{acts, arg, body, body_over, bound, buffer, cell
 abbrev pub to_results : List ExprText → Attr
 to_results results = attr.Map (record { dims = codes "d0" ∷ []; syms = []; results = results })
 
+-- () -> ()
+abbrev pub no_result : Attr
+no_result = attr.Map (record { dims = []; syms = []; results = [] })
+
 abbrev pub with_map : Attr → List Named
 with_map value = entry (codes "map") value ∷ []
 
@@ -57,6 +61,13 @@ Extremes =
     × EachRefused [] (each_with extremes (place ∷ []) (with_map (to_results (d0 ∷ expr.Mul d0 d0 ∷ []))) index) 15
     × EachRefused [] (each_with extremes (place ∷ []) (with_map (to_results (replicate 9 d0))) index) 17
 
+-- memref<i32>
+abbrev pub cell : TypeText
+cell = type.MemRef [] (codes "i32") None
+
+abbrev pub cell_value : BodyArg
+cell_value = arg (codes "%A") cell
+
 -- ---- affine subscripts
 abbrev pub reading : List BodyArg → Attr → TypeText → Node
 reading operands value t = gives (codes "affine.load") operands (with_map value) t
@@ -84,7 +95,7 @@ AffineLoads =
     ∷ reading (cells ∷ place ∷ []) (to_results []) i32 ∷ reading (cells ∷ place ∷ []) (to_results (d0 ∷ d0 ∷ [])) i32 ∷ []) 9
     × EachRefused [] (reading (cells ∷ word ∷ []) (map_over d0) i32 ∷ []) 10
     × EachRefused [] (reading (cells ∷ place ∷ []) (map_over (expr.Mul d0 d0)) i32 ∷ []) 15
-    × IsTaken (body_over grid (reading (grid_cells ∷ place ∷ []) (to_results (d0 ∷ three ∷ [])) i32 ∷ []))
+    × IsTaken (body_over grid (reading (grid_cells ∷ place ∷ []) (to_results (d0 ∷ three ∷ [])) i32 ∷ [])) × IsTaken (body_over cell (reading (cell_value ∷ []) no_result i32 ∷ []))
     × IsRefused (body_over grid (reading (grid_cells ∷ place ∷ []) (map_over d0) i32 ∷ [])) 2 9
 
 -- an element's value first, then as in loads
@@ -101,7 +112,7 @@ AffineStores =
     ∷ writing (word ∷ cells ∷ place ∷ []) (to_results []) ∷ writing (word ∷ cells ∷ place ∷ []) (to_results (d0 ∷ d0 ∷ [])) ∷ []) 9
     × EachRefused [] (writing (word ∷ cells ∷ word ∷ []) (map_over d0) ∷ []) 10
     × EachRefused [] (writing (word ∷ cells ∷ place ∷ []) (map_over (expr.Mul d0 d0)) ∷ []) 15
-    × IsTaken (body_over grid (writing (word ∷ grid_cells ∷ place ∷ []) (to_results (d0 ∷ three ∷ [])) ∷ []))
+    × IsTaken (body_over grid (writing (word ∷ grid_cells ∷ place ∷ []) (to_results (d0 ∷ three ∷ [])) ∷ [])) × IsTaken (body_over cell (writing (word ∷ cell_value ∷ []) no_result ∷ []))
     × IsRefused (body_over grid (writing (word ∷ grid_cells ∷ place ∷ []) (map_over d0) ∷ [])) 2 9
 
 -- ---- subscripts that are values
@@ -129,6 +140,7 @@ PlainAccess =
     × EachRefused [] (gives (codes "memref.load") (cells ∷ place ∷ []) (with_map (map_over d0)) i32 ∷ acts (codes "memref.store") (word ∷ cells ∷ place ∷ []) (with_map (map_over d0))
     ∷ gives (codes "memref.dim") (cells ∷ place ∷ []) (with_map (map_over d0)) index ∷ []) 8
     × IsTaken (body_over grid (fetching (grid_cells ∷ place ∷ place ∷ []) i32 ∷ putting (word ∷ grid_cells ∷ place ∷ place ∷ []) ∷ []))
+    × IsTaken (body_over cell (fetching (cell_value ∷ []) i32 ∷ putting (word ∷ cell_value ∷ []) ∷ []))
     × IsRefused (body_over grid (fetching (grid_cells ∷ place ∷ []) i32 ∷ [])) 2 2
 
 -- ---- vectors in buffers
@@ -137,10 +149,6 @@ fetching_lanes operands t = gives (codes "vector.load") operands [] t
 
 abbrev pub putting_lanes : List BodyArg → Node
 putting_lanes operands = acts (codes "vector.store") operands []
-
--- memref<i32>
-abbrev pub cell : TypeText
-cell = type.MemRef [] (codes "i32") None
 
 -- vector<2x2xi32>
 abbrev pub square : TypeText
@@ -161,8 +169,8 @@ VectorAccess =
     ∷ fetching_lanes (cells ∷ word ∷ []) four ∷ fetching_lanes (word ∷ place ∷ []) four
     ∷ putting_lanes (word ∷ cells ∷ place ∷ []) ∷ putting_lanes (flags ∷ cells ∷ place ∷ []) ∷ putting_lanes (lanes ∷ cells ∷ word ∷ [])
     ∷ putting_lanes (lanes ∷ word ∷ place ∷ []) ∷ []) 6
-    × IsRefused (body_over cell (fetching_lanes (arg (codes "%A") cell ∷ []) four ∷ [])) 2 6
-    × IsRefused (body_over cell (repeats lanes word ∷ putting_lanes (lanes ∷ arg (codes "%A") cell ∷ []) ∷ [])) 3 6
+    × IsRefused (body_over cell (fetching_lanes (cell_value ∷ []) four ∷ [])) 2 6
+    × IsRefused (body_over cell (repeats lanes word ∷ putting_lanes (lanes ∷ cell_value ∷ []) ∷ [])) 3 6
     × (least (body (repeats square_lanes word ∷ putting_lanes (square_lanes ∷ cells ∷ place ∷ []) ∷ [])) mode.Vector ≡ Some (record { operation = 3; code = 6 }))
 
 abbrev pub fetching_some : List BodyArg → TypeText → Node
@@ -185,8 +193,8 @@ MaskedAccess =
     × EachRefused values (acts (codes "vector.maskedload") (cells ∷ place ∷ flags ∷ lanes ∷ []) [] ∷ gives (codes "vector.maskedstore") (cells ∷ place ∷ flags ∷ lanes ∷ []) [] four ∷ []) 3
     × EachRefused values (fetching_some (cells ∷ place ∷ flags ∷ lanes ∷ []) truths ∷ fetching_some (cells ∷ place ∷ flags ∷ flags ∷ []) truths
     ∷ fetching_some (cells ∷ place ∷ flags ∷ word ∷ []) i32 ∷ map putting_some disagreeing ++ map (λ operands. fetching_some operands four) disagreeing) 6
-    × IsRefused (body_over cell (values ++ fetching_some (arg (codes "%A") cell ∷ flags ∷ lanes ∷ []) four ∷ [])) 6 6
-    × IsRefused (body_over cell (values ++ putting_some (arg (codes "%A") cell ∷ flags ∷ lanes ∷ []) ∷ [])) 6 6
+    × IsRefused (body_over cell (values ++ fetching_some (cell_value ∷ flags ∷ lanes ∷ []) four ∷ [])) 6 6
+    × IsRefused (body_over cell (values ++ putting_some (cell_value ∷ flags ∷ lanes ∷ []) ∷ [])) 6 6
 
 -- ---- marks of accesses
 -- operations that touch elements of a buffer, with these entries
@@ -198,11 +206,10 @@ accesses more =
     ∷ gives (codes "vector.load") (cells ∷ place ∷ []) more four ∷ acts (codes "vector.store") (lanes ∷ cells ∷ place ∷ []) more
     ∷ gives (codes "vector.maskedload") (cells ∷ place ∷ flags ∷ lanes ∷ []) more four ∷ acts (codes "vector.maskedstore") (cells ∷ place ∷ flags ∷ lanes ∷ []) more ∷ []
 
--- they may have the number of a source, and that of a loop is dropped on them; both are dropped on a size
+-- they may have the number of a source
 abbrev pub AccessMarks : Type 0
 AccessMarks =
-    EachTaken values (accesses (entry (codes "affvec.of") (number (pos 3) i64) ∷ []) ++ accesses (entry (codes "affvec.loop") attr.Unit ∷ [])
-    ++ gives (codes "memref.dim") (cells ∷ place ∷ []) (entry (codes "affvec.of") attr.Unit ∷ entry (codes "affvec.loop") attr.Unit ∷ []) index ∷ [])
+    EachTaken values (accesses (entry (codes "affvec.of") (number (pos 3) i64) ∷ []))
     × EachRefused values (accesses (entry (codes "affvec.of") attr.Unit ∷ []) ++ accesses (entry (codes "affvec.of") (number (negsuc 0) i64) ∷ [])) 8
 
 abbrev pub BufferExamples : Type 0

@@ -17,9 +17,10 @@ pub mod Fails
 pub mod Trees
 pub mod Examples
 pub mod RowExamples
+pub mod EdgeExamples
 pub mod ScalarExamples
 pub mod BufferExamples
 pub mod VectorExamples
 pub mod RegionExamples
-pub mod EdgeExamples
+pub mod TableExamples
 pub mod Walks

@@ -11,6 +11,7 @@ use Rattle.av_tree.specs.declared.node.Tree.{Tree}
 use Rattle.av_tree.specs.declared.written.ExprText.{ExprText}
 use Rattle.av_tree.specs.declared.written.ExprText.TheVariants as expr
 use Rattle.av_tree.specs.declared.written.TypeText.{TypeText, Func'}
+use Rattle.av_rules.specs.BufferExamples.{no_result, three, to_results}
 use Rattle.av_rules.specs.Entries.{is_entry}
 use Rattle.av_rules.specs.Examples.{AreRefused, AreTaken, EachRefused, EachTaken, IsRefused, IsTaken}
 use Rattle.av_rules.specs.RowExamples.{i64}
@@ -74,7 +75,7 @@ FunctionProperties =
     AreTaken (map idle (plain ∷ (typed [] [] ∷ named (codes "12") ∷ []) ∷ (typed [] [] ∷ named (codes "a-b.c$_") ∷ [])
     ∷ (entry (codes "affvec.distinct") attr.Unit ∷ plain) ∷ (entry (codes "sym_visibility") attr.Unit ∷ plain) ∷ []))
     × AreRefused (map idle (each_lacking plain)) 1 7
-    × AreRefused (map idle (each_spoilt plain ++ (typed [] [] ∷ named [] ∷ []) ∷ (typed [] [] ∷ named (codes "1a") ∷ []) ∷ (typed [] [] ∷ named (codes "a b") ∷ [])
+    × AreRefused (map idle (each_spoilt plain ++ (entry (codes "function_type") (attr.«Type» i32) ∷ named (codes "f") ∷ []) ∷ (typed [] [] ∷ named [] ∷ []) ∷ (typed [] [] ∷ named (codes "1a") ∷ []) ∷ (typed [] [] ∷ named (codes "a b") ∷ [])
     ∷ (entry (codes "affvec.distinct") (number (pos 1) i64) ∷ plain) ∷ (entry (codes "inline") attr.Unit ∷ plain) ∷ [])) 1 8
     × EachRefused [] (gives (codes "arith.addi") (word ∷ word ∷ []) (entry (codes "sym_visibility") attr.Unit ∷ []) i32 ∷ []) 8
 
@@ -120,9 +121,6 @@ bounds lower upper segments =
 abbrev pub to_four : ℤ → List Named
 to_four carried = bounds (bound (pos 0)) (bound (pos 4)) (pos 0 ∷ pos 0 ∷ carried ∷ [])
 
-abbrev pub no_result : Attr
-no_result = attr.Map (record { dims = []; syms = []; results = [] })
-
 -- the arguments of a region: the number of a turn, and what is carried
 abbrev pub counter : BodyArg
 counter = arg (codes "%i") index
@@ -142,7 +140,8 @@ abbrev pub LoopBounds : Type 0
 LoopBounds =
     EachTaken [] (turning [] (to_four (pos 0)) ∷ turning (place ∷ []) (bounds (map_over d0) (bound (pos 4)) (pos 1 ∷ pos 0 ∷ pos 0 ∷ []))
     ∷ turning (place ∷ []) (bounds (bound (pos 0)) (map_over d0) (pos 0 ∷ pos 1 ∷ pos 0 ∷ [])) ∷ turning [] (entry (codes "affvec.loop") (number (pos 7) i64) ∷ to_four (pos 0))
-    ∷ turning [] (entry (codes "affvec.of") attr.Unit ∷ to_four (pos 0)) ∷ [])
+    ∷ turning (place ∷ []) (bounds (bound (pos 0)) (to_results (d0 ∷ three ∷ [])) (pos 0 ∷ pos 1 ∷ pos 0 ∷ []))
+    ∷ turning (place ∷ []) (bounds (to_results (d0 ∷ three ∷ [])) (bound (pos 4)) (pos 1 ∷ pos 0 ∷ pos 0 ∷ [])) ∷ [])
     × EachRefused [] (map (turning []) (each_lacking (to_four (pos 0)))) 7
     × EachRefused [] (map (turning []) (each_spoilt (to_four (pos 0)) ++ (entry (codes "affvec.loop") attr.Unit ∷ to_four (pos 0)) ∷ [])) 8
     × EachRefused [] (turning [] (bounds no_result (bound (pos 4)) (pos 0 ∷ pos 0 ∷ pos 0 ∷ [])) ∷ turning [] (bounds (bound (pos 0)) no_result (pos 0 ∷ pos 0 ∷ pos 0 ∷ []))
@@ -170,6 +169,7 @@ Carrying =
     × EachRefused [] (both (λ name needed properties end. carrying name (needed ++ word ∷ []) properties (counter ∷ arg (codes "%t") i64 ∷ []) (ending end (running ∷ []) ∷ []))
     ++ both (λ name needed properties end. carrying name (needed ++ word ∷ []) properties (arg (codes "%i") i32 ∷ running ∷ []) (ending end (running ∷ []) ∷ []))
     ++ both (λ name needed properties end. carrying name (needed ++ place ∷ []) properties (counter ∷ running ∷ []) (ending end (running ∷ []) ∷ []))
+    ++ both (λ name needed properties end. holding (codes "%r" ∷ []) name (needed ++ word ∷ []) properties (region (counter ∷ running ∷ []) (ending end (running ∷ []) ∷ []) ∷ []) (i64 ∷ []))
     ++ both (λ name needed properties end. holding (codes "%r" ∷ []) name (needed ++ cells ∷ []) properties
     (region (counter ∷ arg (codes "%t") buffer ∷ []) (ending end (arg (codes "%t") buffer ∷ []) ∷ []) ∷ []) (buffer ∷ []))) 6
     × EachRefused [] (both (λ name needed properties end. carrying name (needed ++ word ∷ []) properties (counter ∷ running ∷ []) [])

@@ -63,9 +63,10 @@ abbrev pub Binary : Type 0
 Binary =
     EachTaken [] (each_of binary_names (word ∷ word ∷ []) i32 ++ each_of binary_names (place ∷ place ∷ []) index)
     × EachTaken values (each_of binary_names (lanes ∷ lanes ∷ []) four)
-    × EachRefused [] (each_of binary_names (word ∷ []) i32) 2
+    × EachRefused [] (each_of binary_names (word ∷ []) i32 ++ each_of binary_names (word ∷ word ∷ word ∷ []) i32) 2
     × EachRefused [] (map (λ name. acts name (word ∷ word ∷ []) []) binary_names) 3
     × EachRefused [] (each_of binary_names (word ∷ place ∷ []) i32 ++ each_of binary_names (word ∷ word ∷ []) i64 ++ each_of binary_names (cells ∷ cells ∷ []) buffer) 6
+    × EachRefused values (each_of binary_names (lanes ∷ word ∷ []) four) 6
 
 -- ---- comparing and choosing
 abbrev pub comparing : List BodyArg → Attr → TypeText → Node
@@ -82,7 +83,7 @@ Comparisons =
     × EachTaken values (comparing (lanes ∷ lanes ∷ []) less truths ∷ [])
     × EachRefused [] (comparing (word ∷ []) less i1 ∷ comparing (word ∷ word ∷ word ∷ []) less i1 ∷ []) 2
     × EachRefused [] (comparing (word ∷ place ∷ []) less i1 ∷ comparing (cells ∷ cells ∷ []) less (buffer_of (codes "i1")) ∷ []) 6
-    × EachRefused values (comparing (lanes ∷ lanes ∷ []) less i1 ∷ comparing (lanes ∷ lanes ∷ []) less four ∷ []) 6
+    × EachRefused values (comparing (lanes ∷ lanes ∷ []) less i1 ∷ comparing (lanes ∷ lanes ∷ []) less four ∷ comparing (lanes ∷ word ∷ []) less truths ∷ []) 6
     × EachRefused [] (gives (codes "arith.cmpi") (word ∷ word ∷ []) [] i1 ∷ []) 7
     × EachRefused [] (comparing (word ∷ word ∷ []) (number (pos 2) i32) i1 ∷ comparing (word ∷ word ∷ []) (number (negsuc 0) i64) i1 ∷ []) 8
 
@@ -94,8 +95,8 @@ abbrev pub Selections : Type 0
 Selections =
     EachTaken values (choosing (flag ∷ word ∷ word ∷ []) i32 ∷ choosing (flag ∷ place ∷ place ∷ []) index
     ∷ choosing (flag ∷ lanes ∷ lanes ∷ []) four ∷ choosing (flags ∷ lanes ∷ lanes ∷ []) four ∷ [])
-    × EachRefused values (choosing (flag ∷ word ∷ []) i32 ∷ []) 2
-    × EachRefused values (choosing (flag ∷ word ∷ place ∷ []) i32 ∷ choosing (flag ∷ word ∷ word ∷ []) i64
+    × EachRefused values (choosing (flag ∷ word ∷ []) i32 ∷ choosing (flag ∷ word ∷ word ∷ word ∷ []) i32 ∷ []) 2
+    × EachRefused values (choosing (flag ∷ word ∷ place ∷ []) i32 ∷ choosing (flag ∷ lanes ∷ word ∷ []) four ∷ choosing (flag ∷ word ∷ word ∷ []) i64
     ∷ choosing (flags ∷ word ∷ word ∷ []) i32 ∷ choosing (two_flags ∷ lanes ∷ lanes ∷ []) four
     ∷ choosing (lanes ∷ lanes ∷ lanes ∷ []) four ∷ choosing (flag ∷ cells ∷ cells ∷ []) buffer ∷ []) 6
 

@@ -7,6 +7,7 @@ ghost use Rattle.av_rules.specs.Fails.{LeastLaw};
 ghost use Rattle.av_rules.specs.RegionExamples.{RegionExamples};
 ghost use Rattle.av_rules.specs.RowExamples.{RowExamples};
 ghost use Rattle.av_rules.specs.ScalarExamples.{ScalarExamples};
+ghost use Rattle.av_rules.specs.TableExamples.{TableExamples};
 ghost use Rattle.av_rules.specs.VectorExamples.{VectorExamples};
 ghost use Rattle.av_rules.specs.Views.{ViewsLaw};
 ghost use Rattle.av_rules.specs.Walks.{AllSitesLaw};
@@ -25,6 +26,12 @@ pub fn some_trees()
 /// For most operations a tree that is taken, and one that is refused.
 pub fn some_operations()
     ensures { RowExamples }
+{}
+
+/// The operation of each row is taken, and refused with an entry that it doesn't have; and so with marks, and
+/// where a module is to be vectorized.
+pub fn every_row()
+    ensures { TableExamples }
 {}
 
 /// Each operation of arith is taken, and refused for each thing that is asked of it.
