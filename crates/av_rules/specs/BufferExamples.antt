@@ -5,7 +5,6 @@ use Rattle.av_tree.specs.declared.attribute.Attr.TheVariants as attr
 use Rattle.av_tree.specs.declared.attribute.Named.{Named}
 use Rattle.av_tree.specs.declared.node.BodyArg.{BodyArg}
 use Rattle.av_tree.specs.declared.node.Node.{Node}
-use Rattle.av_tree.specs.declared.node.Tree.{Tree}
 use Rattle.av_tree.specs.declared.written.DimText.TheVariants as dim
 use Rattle.av_tree.specs.declared.written.ExprText.{ExprText}
 use Rattle.av_tree.specs.declared.written.ExprText.TheVariants as expr
@@ -15,9 +14,9 @@ use Rattle.av_tree.specs.declared.written.TypeText.TheVariants as type
 use Rattle.av_rules.specs.declared.mode.Mode.TheVariants as mode
 use Rattle.av_rules.specs.Examples.{EachRefused, EachTaken, IsRefused, IsTaken}
 use Rattle.av_rules.specs.Fails.{least}
-use Rattle.av_rules.specs.RowExamples.{i1, i64, truths}
+use Rattle.av_rules.specs.RowExamples.{i64, truths}
 use Rattle.av_rules.specs.ScalarExamples.{flag, flags, four_of, lanes, repeats, two_flags, values}
-use Rattle.av_rules.specs.Trees.{acts, arg, body, body_over, bound, buffer, cells, d0, entry, four, gives, i32, index, map_over, number, place, word}
+use Rattle.av_rules.specs.Trees.{acts, arg, body, body_over, bound, cells, d0, entry, four, gives, i32, index, map_over, number, place, word}
 
 -- ---- the least and the greatest of a map's results
 -- (d0) -> (results)

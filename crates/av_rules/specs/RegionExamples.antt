@@ -1,5 +1,5 @@
 -- Operations that have regions, and those that end regions: each is taken, and refused for each thing that is asked of it.
-use Rattle.std.specs.Prelude.{ℕ, ℤ, ◌≡◌, not, pos, true, List, [], ◌∷◌, ◌++◌, map, None, Some, codes}
+use Rattle.std.specs.Prelude.{ℕ, ℤ, not, pos, true, List, [], ◌∷◌, ◌++◌, map, codes}
 use Rattle.std.specs.List.{filter}
 use Rattle.av_tree.specs.declared.attribute.Attr.{Attr}
 use Rattle.av_tree.specs.declared.attribute.Attr.TheVariants as attr
@@ -15,7 +15,7 @@ use Rattle.av_rules.specs.BufferExamples.{no_result, three, to_results}
 use Rattle.av_rules.specs.Entries.{is_entry}
 use Rattle.av_rules.specs.Examples.{AreRefused, AreTaken, EachRefused, EachTaken, IsRefused, IsTaken}
 use Rattle.av_rules.specs.RowExamples.{i64}
-use Rattle.av_rules.specs.Trees.{acts, arg, body, bound, buffer, cells, constant, d0, entry, four, gives, i32, index, load, loop, map_over, named_results, number, operation, place, region, row_of_types, shape, terminator, tree_of, word, yield}
+use Rattle.av_rules.specs.Trees.{acts, arg, body, bound, buffer, cells, constant, d0, entry, four, gives, i32, index, loop, map_over, named_results, number, operation, place, region, row_of_types, shape, terminator, tree_of, word, yield}
 
 -- ---- operations with regions
 -- NAME(operands) <{properties}> (regions), with these results of these types

@@ -6,7 +6,7 @@ use Rattle.av_tree.specs.declared.node.Node.{Node, Node'}
 use Rattle.av_tree.specs.declared.node.Tree.{Tree}
 use Rattle.av_rules.specs.BufferExamples.{all_applied, each_with, fetching, fetching_lanes, fetching_some, putting, putting_lanes, putting_some, reading, sizing, with_map, writing}
 use Rattle.av_rules.specs.EdgeExamples.{small_shape}
-use Rattle.av_rules.specs.Examples.{AreRefused, AreTaken, EachRefused, EachTaken, IsRefused, IsTaken}
+use Rattle.av_rules.specs.Examples.{AreRefused, AreTaken, EachRefused, EachTaken, IsRefused}
 use Rattle.av_rules.specs.Fails.{least}
 use Rattle.av_rules.specs.RegionExamples.{counter, counting, deciding, ends_here, holding, is_zero, returning, three_places, to_four, turning, with_type}
 use Rattle.av_rules.specs.RowExamples.{i1, i64, truths}

@@ -1,6 +1,5 @@
 -- Operations that make vectors or take them apart: each is taken, and refused for each thing that is asked of it.
 use Rattle.std.specs.Prelude.{ℕ, ℤ, ◌≡◌, pos, negsuc, List, [], ◌∷◌, ◌++◌, map, None, Some, codes}
-use Rattle.av_tree.specs.declared.attribute.Attr.{Attr}
 use Rattle.av_tree.specs.declared.attribute.Attr.TheVariants as attr
 use Rattle.av_tree.specs.declared.attribute.Named.{Named}
 use Rattle.av_tree.specs.declared.node.BodyArg.{BodyArg}
