@@ -7,7 +7,7 @@ use Rattle.std.specs.Prelude.{ℕ}
 use Rattle.av_tree.specs.declared.written.TypeText.{TypeText, Row_of-TypeText, end_of-TypeText, more_of-TypeText, items-the_row-TypeText, items_hidden-the_row-TypeText-0}
 use Rattle.av_tree.specs.declared.written.TypeText.TheVariants as text
 use Rattle.av_tree.specs.declared.written.TypeText.TheBlock.{hidden-the_row-TypeText-0}
-use Rattle.av_rules.specs.Views.{Function, function_in, types_listed}
+use Rattle.av_rules.specs.Views.{function_in, types_listed}
 
 types-are : {m : _} (row : Row_of-TypeText m) → types_listed row ≡ items-the_row-TypeText m row
 unfolding types_listed

@@ -1,13 +1,13 @@
 -- The row of a name, found by the number of the operation.
-use Rattle.std.proofs.Common.{◌≡◌, ◌∙◌, ℕ, zero, suc, Bool, true, false, List, [], ◌∷◌, map, Option, Some, None, option_map, refl, ap, sym, subst}
+use Rattle.std.proofs.Common.{◌≡◌, ◌∙◌, ℕ, suc, Bool, true, false, List, [], ◌∷◌, map, Option, Some, None, option_map, refl, ap, sym}
 use Rattle.std.specs.Prelude.{find, slice_get, if◌then◌else◌}
 use Rattle.std.specs.Option.{option_and_then}
 use Rattle.std.specs.Str.{bytes_eq}
 use Rattle.std.proofs.lemmas.Option.{slice_get-map}
-use Rattle.av_dialects.specs.Rows.{number_of, place_in, names as dialect_names}
+use Rattle.av_dialects.specs.Rows.{number_of, place_in, names as dialect_names, row_count as dialect_count}
 use Rattle.av_rules.specs.Rows.{Row, row_of, rows}
 use Rattle.av_signatures.specs.declared.signature.Signature.{Signature}
-use Rattle.av_signatures.specs.Rows.{HasDemands, HasMark, HasOperands, HasProperties, HasRole, HasSource, demands, marks, names, operands, properties, property, roles, sources}
+use Rattle.av_signatures.specs.Rows.{HasDemands, HasMark, HasOperands, HasProperties, HasRole, HasSource, demands, marks, names, operands, properties, property, roles, row_count, sources}
 use Rattle.av_sites.specs.Rows.{row_with}
 
 -- ---- by number
@@ -52,6 +52,10 @@ names-are = refl
 names-agree : names ≡ dialect_names
 unfolding names dialect_names
 names-agree = refl
+
+pub counts-agree : dialect_count ≡ row_count
+unfolding dialect_count row_count
+counts-agree = refl
 
 operands-are : map (λ (r : Row). r.operands) rows ≡ operands
 unfolding rows operands

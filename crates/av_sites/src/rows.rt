@@ -11,6 +11,8 @@ pub fn signature_named(name: &[u8]) -> Option<Signature>
     ensures { option_map (row_with name.now) result ≡ row_of name.now }
 {
     rows_agree();
-    let number = av_dialects::row_of(name)?;
-    Some(signature_of(number))
+    match av_dialects::row_of(name) {
+        Some(number) => Some(signature_of(number)),
+        None => None,
+    }
 }

@@ -1,8 +1,9 @@
 //! The types at the places of an operation, and those of the values that a loop carries.
 
-ghost use Rattle.std.specs.Prelude.{◌≡◌, option_map};
+ghost use Rattle.std.specs.Prelude.{◌≡◌, ◌+◌, drop, option_map, take};
 ghost use Rattle.std.specs.List.{list_any};
 ghost use Rattle.std.specs.Option.{option_copied};
+ghost use Rattle.av_rules.specs.Entries.{segments_of};
 ghost use Rattle.av_rules.specs.Places.{operand_types};
 ghost use Rattle.av_rules.specs.Typing.{carried_count, carried_types, has_segments, is_segments, type_at, type_in, written_result};
 ghost use Rattle.av_signatures.specs.TableLaws.{least};
@@ -102,9 +103,19 @@ pub fn carried_count(row: &Signature, node: &Node, types: &[Option<Ty>]) -> Opti
     }
 {
     if has_segments(row) {
-        Some(segments_of(node)?.carried)
+        parted_count(node)
     } else {
         Some(types.len().saturating_sub(least(row.operands)) as u128)
+    }
+}
+
+// The third of a loop's parts.
+fn parted_count(node: &Node) -> Option<u128>
+    ensures { result ≡ option_map (λ parts. parts.carried) (segments_of node.now) }
+{
+    match segments_of(node) {
+        Some(parts) => Some(parts.carried),
+        None => None,
     }
 }
 
@@ -120,10 +131,24 @@ pub fn carried_types<'t>(
     }
 {
     if has_segments(row) {
-        let segments = segments_of(node)?;
-        let behind = rest_of(rest_of(types, segments.lower), segments.upper);
-        Some(first_of(behind, segments.carried))
+        parted_types(node, types)
     } else {
         Some(rest_of(types, least(row.operands) as u128))
+    }
+}
+
+// The types of the third of a loop's parts.
+fn parted_types<'t>(node: &Node, types: &'t [Option<Ty>]) -> Option<&'t [Option<Ty>]>
+    ensures {
+        option_map (λ list. list.now) result
+        ≡ option_map (λ parts. take parts.carried (drop (parts.lower + parts.upper) types.now)) (segments_of node.now)
+    }
+{
+    match segments_of(node) {
+        Some(parts) => Some(first_of(
+            rest_of(rest_of(types, parts.lower), parts.upper),
+            parts.carried,
+        )),
+        None => None,
     }
 }
