@@ -28,6 +28,7 @@ trait LeafTest {
 }
 
 /// Whether it fits an element type; truth values fit `i1` alone.
+#[derive(Clone, Copy)]
 struct Fits {
     elem: Elem,
 }
@@ -41,6 +42,7 @@ impl LeafTest for Fits {
 }
 
 /// Whether it has a pattern at the width of an element type.
+#[derive(Clone, Copy)]
 struct HasPattern {
     elem: Elem,
     pattern: u64,
