@@ -10,7 +10,8 @@ use Rattle.av_tree.specs.Forms.{form_symbols, item_symbols, lead_symbols}
 use Rattle.av_values.specs.declared.gifts.Gift.{Gift}
 use Rattle.av_values.specs.declared.value.Value.{Value}
 use Rattle.av_values.specs.Gifts.{given, unwritten}
-use Rattle.av_values.specs.Made.{by_row, gift_of, made_of, split, taken}
+use Rattle.av_operations.specs.Taking.{item_taken, parts_taken}
+use Rattle.av_values.specs.Made.{blank, by_row, gift_of, made_of, split, taken}
 use Rattle.av_values.specs.Sorts.{All, Sort, a_node, any, on_top, sorts_of}
 use Rattle.av_values.proofs.Taking.{replaced-taken, taken-behind, taken-not-behind}
 
@@ -54,10 +55,9 @@ behind-lead number place p ps types old after h =
     tt old old after (lead-taken p.0 old) h
 
 pub part-made : (number place : ℕ) (p : Part) (ps : List Part) (types : List (Option TypeText)) (own : Gift) (old between new : List Value) (later node : Node)
-    → taken (sorts_of (item_symbols p.1)) (gift_of p.1) old ≡ Some (own, between)
-    → taken (sorts_of (form_symbols ps)) (λ vs. roll-Node (made_of number place ps (types ++ unwritten own.operands) vs)) between ≡ Some (later, new)
-    → node ≡ roll-Node (given own (out-Node later))
-    → taken (sorts_of (form_symbols (p ∷ ps))) (λ vs. roll-Node (made_of number place (p ∷ ps) types vs)) old ≡ Some (node, new)
+    → item_taken p.1 old ≡ Some (own, between) → parts_taken number place ps (types ++ unwritten own.operands) between ≡ Some (later, new)
+    → node ≡ roll-Node (given own (out-Node later)) → parts_taken number place (p ∷ ps) types old ≡ Some (node, new)
+unfolding item_taken parts_taken
 part-made number place p ps types own old between new later node g h e =
     let put : Node → Node = λ n. roll-Node (given own (out-Node n)) in
     let given-later : taken (sorts_of (form_symbols ps)) (with_gift number place ps types own) between ≡ Some (put later, new) =
@@ -67,16 +67,16 @@ part-made number place p ps types own old between new later node g h e =
     (taken-behind (item_symbols p.1) (form_symbols ps) (gift_of p.1) (with_gift number place ps types) own old between (Some (put later, new)) g given-later))
 
 pub part-missing : (number place : ℕ) (p : Part) (ps : List Part) (types : List (Option TypeText)) (old : List Value)
-    → taken (sorts_of (item_symbols p.1)) (gift_of p.1) old ≡ None
-    → taken (sorts_of (form_symbols (p ∷ ps))) (λ vs. roll-Node (made_of number place (p ∷ ps) types vs)) old ≡ None
+    → item_taken p.1 old ≡ None → parts_taken number place (p ∷ ps) types old ≡ None
+unfolding item_taken parts_taken
 part-missing number place p ps types old g =
     behind-lead number place p ps types old None
     (taken-not-behind (item_symbols p.1) (form_symbols ps) (gift_of p.1) (with_gift number place ps types) old g)
 
 pub later-missing : (number place : ℕ) (p : Part) (ps : List Part) (types : List (Option TypeText)) (own : Gift) (old between : List Value)
-    → taken (sorts_of (item_symbols p.1)) (gift_of p.1) old ≡ Some (own, between)
-    → taken (sorts_of (form_symbols ps)) (λ vs. roll-Node (made_of number place ps (types ++ unwritten own.operands) vs)) between ≡ None
-    → taken (sorts_of (form_symbols (p ∷ ps))) (λ vs. roll-Node (made_of number place (p ∷ ps) types vs)) old ≡ None
+    → item_taken p.1 old ≡ Some (own, between) → parts_taken number place ps (types ++ unwritten own.operands) between ≡ None
+    → parts_taken number place (p ∷ ps) types old ≡ None
+unfolding item_taken parts_taken
 later-missing number place p ps types own old between g h =
     let put : Node → Node = λ n. roll-Node (given own (out-Node n)) in
     let none-later : taken (sorts_of (form_symbols ps)) (with_gift number place ps types own) between ≡ None =
@@ -85,17 +85,20 @@ later-missing number place p ps types own old between g h =
     behind-lead number place p ps types old None
     (taken-behind (item_symbols p.1) (form_symbols ps) (gift_of p.1) (with_gift number place ps types) own old between None g none-later)
 
+pub no-part : (number place : ℕ) (types : List (Option TypeText)) (old : List Value) → parts_taken number place [] types old ≡ Some (roll-Node (blank number place types), old)
+unfolding parts_taken taken
+no-part number place types old = refl
+
 -- ---- the whole operation
-pub operation-made : (number place : ℕ) (old new : List Value) (node : Node)
-    → taken (sorts_of (form_symbols (form_of number))) (λ vs. roll-Node (made_of number place (form_of number) [] vs)) old ≡ Some (node, new)
+pub operation-made : (number place : ℕ) (old new : List Value) (node : Node) → parts_taken number place (form_of number) [] old ≡ Some (node, new)
     → by_row number place old ≡ Some (any a_node node ∷ new)
+unfolding parts_taken
 operation-made number place old new node h =
     replaced-taken (sorts_of (form_symbols (form_of number))) a_node (λ (n : Node). n) (λ vs. roll-Node (made_of number place (form_of number) [] vs)) old
     ∙ ap (option_map (λ (t : Node × List Value). any a_node t.0 ∷ t.1)) h
 
-pub operation-missing : (number place : ℕ) (old : List Value)
-    → taken (sorts_of (form_symbols (form_of number))) (λ vs. roll-Node (made_of number place (form_of number) [] vs)) old ≡ None
-    → by_row number place old ≡ None
+pub operation-missing : (number place : ℕ) (old : List Value) → parts_taken number place (form_of number) [] old ≡ None → by_row number place old ≡ None
+unfolding parts_taken
 operation-missing number place old h =
     replaced-taken (sorts_of (form_symbols (form_of number))) a_node (λ (n : Node). n) (λ vs. roll-Node (made_of number place (form_of number) [] vs)) old
     ∙ ap (option_map (λ (t : Node × List Value). any a_node t.0 ∷ t.1)) h

@@ -2,10 +2,9 @@
 //! the last, and given to the operation from the last to the first.
 
 ghost use Rattle.std.specs.Prelude.{◌≡◌, [], Some, None, IfErr, IfOk, OnOk};
-ghost use Rattle.av_tree.specs.Forms.{form_symbols};
 ghost use Rattle.av_tree.specs.declared.node.Node.{roll-Node};
-ghost use Rattle.av_values.specs.Made.{blank as the_blank, by_row, made_of, taken, unwritten_results as the_unwritten_results};
-ghost use Rattle.av_values.specs.Sorts.{sorts_of};
+ghost use Rattle.av_values.specs.Made.{blank as the_blank, by_row, unwritten_results as the_unwritten_results};
+ghost use Rattle.av_operations.specs.Taking.{parts_taken};
 
 use super::gifts::take_gift;
 use av_affine::Seq;
@@ -35,8 +34,8 @@ fn made_of(
     parts: &[Part],
     mut types: Seq<Option<TypeText>>,
 ) -> Result<Node, Fault>
-    ensures ok { IfOk result (λ node. taken (sorts_of (form_symbols parts.now)) (λ vs. roll-Node (made_of number place parts.now types vs)) stack.old ≡ Some (node, stack.new)) }
-    ensures misshapen { IfErr result (λ fault. fault ≡ Fault.Misshapen → taken (sorts_of (form_symbols parts.now)) (λ vs. roll-Node (made_of number place parts.now types vs)) stack.old ≡ None) }
+    ensures ok { IfOk result (λ node. parts_taken number place parts.now types stack.old ≡ Some (node, stack.new)) }
+    ensures misshapen { IfErr result (λ fault. fault ≡ Fault.Misshapen → parts_taken number place parts.now types stack.old ≡ None) }
 {
     let alloc = stack.alloc();
     match parts {
@@ -47,7 +46,10 @@ fn made_of(
             give(alloc, &mut node, gift)?;
             Ok(node)
         }
-        [] => blank(alloc, number, place, types),
+        [] => {
+            let node = blank(alloc, number, place, types)?;
+            Ok(node)
+        }
     }
 }
 
