@@ -1,6 +1,6 @@
 -- Names as the rules see them, and as operations of a module are made from them.
-use Rattle.std.proofs.Common.{◌≡◌, ◌∙◌, ℕ, Bool, true, false, cond, List, [], ◌∷◌, map, Option, Some, None, Bor, refl, ap, sym}
-use Rattle.std.specs.Prelude.{is_some}
+use Rattle.std.proofs.Common.{◌≡◌, ◌∙◌, ℕ, suc, Bool, true, false, cond, List, [], ◌∷◌, map, Option, Some, None, Bor, refl, ap, sym}
+use Rattle.std.specs.Prelude.{is_some, position}
 use Rattle.std.specs.List.{find}
 use Rattle.std.specs.Option.{option_copied, option_and_then, option_map, option_map_or}
 use Rattle.std.specs.Str.{bytes_eq}
@@ -13,6 +13,7 @@ use Rattle.av_rules.specs.Scopes.{is_visible, role_named, type_named}
 use Rattle.av_elaboration.specs.Kinds.{value_named}
 use Rattle.av_elaboration.specs.declared.tag.Tag.{Tag}
 use Rattle.av_elaboration.specs.declared.tag.Tag.TheVariants.{Module}
+use Rattle.av_dialects.specs.Rows.{place_in}
 use Rattle.av_building.specs.TagsFound.{tag_found, tagged_by}
 use Rattle.av_elaboration.specs.Tags.{Tagged}
 use Rattle.av_building.specs.declared.names.Meaning.{Meaning}
@@ -74,3 +75,8 @@ among {X} f g rows name =
     by : (o : Option X) → option_map_or (λ t. t) (option_map g o) Module ≡ option_map_or (λ (t : Tagged). t.tag) (option_map (λ row. tagged_by (f row) (g row)) o) Module
     by None = refl
     by (Some row) = refl
+
+-- ---- places of words
+pub placed : {X : Type 0} (f : X → List ℕ) (words : List X) (word : List ℕ) → position (λ one. bytes_eq (f one) word) words ≡ place_in (map f words) word
+placed f [] word = refl
+placed f (one ∷ words) word = ap (λ rest. cond (bytes_eq (f one) word) (Some 0) (option_map suc rest)) (placed f words word)

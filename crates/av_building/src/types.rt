@@ -1,6 +1,6 @@
 //! Types as values of a module have them.
 
-ghost use Rattle.std.specs.Prelude.{◌≡◌, ◌≤◌, [], All, IfOk, map, None, Some, unwrap_or};
+ghost use Rattle.std.specs.Prelude.{◌≡◌, [], IfOk, map, option_map, unwrap_or};
 ghost use Rattle.std.specs.Option.{option_and_then};
 ghost use Rattle.av_building.specs.Types.{taken, taken_extents, taken_sizes};
 ghost use Rattle.av_ir.specs.declared.ty.Ty.TheVariants.{MemRef, Vector};
