@@ -108,7 +108,7 @@ module _ {most : ℕ} where
       (λ is. given_alone bytes (of_class test.AliasOnly _ class.HashDigits is refl)) (given_bare bytes)
       (λ is. given_alone bytes (of_class test.AliasOnly _ class.HashOther is refl)) bytes refl
 
-  integer_rows : ListRows most (symbol.Rows (name.Value values_name.Integer) ∷ []) (name.Value values_name.Integers) (name.Value values_name.MoreIntegers)
+  pub integer_rows : ListRows most (symbol.Rows (name.Value values_name.Integer) ∷ []) (name.Value values_name.Integers) (name.Value values_name.MoreIntegers)
       (λ (z : ℤ). value.Number z ∷ []) value.Numbers
   unfolding replaced on_top
   integer_rows = record {
@@ -276,16 +276,19 @@ module _ (types : TypesLaw) (many : ManyTypesLaw) (results : ResultTypesLaw) (in
       (given_sign signs.CloseAngle))
       (ap (λ (l : List ℤ). Some (value.Attr (attr.Array elem l) ∷ [])) (reverse-reverse numbers))
 
-  given_dense : (e : Element) (ty : TypeText) → IsElement e → IsType ty → Gives most an_attribute (dense_of e ty) (value.Attr (attr.Dense e ty) ∷ [])
+  pub given_elements : (e : Element) (ty : TypeText) → IsElement e → IsType ty
+      → Gives most (rows_of attributes_name.Dense) (dense_of e ty) (value.Dense (record { elements = e; ty = ty }) ∷ [])
   unfolding dense_of replaced on_top
-  given_dense e ty h k =
-      given_row (rule.Attribute attributes_rule.DenseAttribute) refl tt
-      (given_row (rule.Attribute attributes_rule.DenseElements) refl tt
+  given_elements e ty h k =
+      given_row (rule.Attribute attributes_rule.DenseElements) refl tt
       (join
       (join (join (join (given_word key.Dense (codes "dense") class-dense) (given_sign signs.OpenAngle)) (given_element integers most e h)) (given_sign signs.CloseAngle))
       (given_typed ty k))
-      refl)
       refl
+
+  given_dense : (e : Element) (ty : TypeText) → IsElement e → IsType ty → Gives most an_attribute (dense_of e ty) (value.Attr (attr.Dense e ty) ∷ [])
+  unfolding replaced on_top
+  given_dense e ty h k = given_row (rule.Attribute attributes_rule.DenseAttribute) refl tt (given_elements e ty h k) refl
 
   -- ---- the types of functions
   given_arrow : (inputs outputs : List TypeText) → All IsType inputs → All IsType outputs

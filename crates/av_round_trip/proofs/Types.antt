@@ -238,7 +238,7 @@ module _ {most : ℕ} where
 
 -- ---- types
 module _ {most : ℕ} where
-  given_mem_ref : (ss : List SizeText) (elem : List ℕ) (at : Option LayoutText) → All IsShortSize ss → IsScalar elem → IsShortLayout at
+  pub given_mem_ref : (ss : List SizeText) (elem : List ℕ) (at : Option LayoutText) → All IsShortSize ss → IsScalar elem → IsShortLayout at
       → Gives most (symbol.Rows (name.Type types_name.MemRef) ∷ []) (type_pieces (MemRef ss elem at)) (value.Type (MemRef ss elem at) ∷ [])
   unfolding keywords replaced on_top
   given_mem_ref ss elem at short is layout =
@@ -248,7 +248,7 @@ module _ {most : ℕ} where
       (given_token test.Scalar kinds.Word elem (ap (λ k. fits_of test.Scalar k) is))) (given_layout at layout)) (given_sign signs.CloseAngle)))
       (ap (λ l. Some (value.Type (MemRef l elem at) ∷ [])) (reverse-reverse ss))
 
-  given_vector : (ds : List DimText) (elem : List ℕ) → All IsShortDim ds → IsScalar elem
+  pub given_vector : (ds : List DimText) (elem : List ℕ) → All IsShortDim ds → IsScalar elem
       → Gives most (symbol.Rows (name.Type types_name.Vector) ∷ []) (type_pieces (Vector ds elem)) (value.Type (Vector ds elem) ∷ [])
   unfolding keywords replaced on_top
   given_vector ds elem short is =
