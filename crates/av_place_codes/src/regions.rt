@@ -1,6 +1,6 @@
 //! The regions of an operation: how many there are, with how many arguments, and how they end.
 
-ghost use Rattle.std.specs.Prelude.{◌≡◌, ◌==◌, codes, length, option_map};
+ghost use Rattle.std.specs.Prelude.{◌≡◌, ◌==◌, true, false, codes, length, option_map};
 ghost use Rattle.std.specs.List.{list_all};
 ghost use Rattle.std.specs.Option.{option_and_then, option_map_or};
 ghost use Rattle.av_rules.specs.Agreement.{argument_types};
