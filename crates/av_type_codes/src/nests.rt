@@ -28,6 +28,7 @@ trait LeafTest {
 }
 
 /// Whether it fits an element type; truth values fit `i1` alone.
+#[derive(Clone, Copy)]
 struct Fits {
     elem: Elem,
 }
@@ -41,6 +42,7 @@ impl LeafTest for Fits {
 }
 
 /// Whether it has a pattern at the width of an element type.
+#[derive(Clone, Copy)]
 struct HasPattern {
     elem: Elem,
     pattern: u64,
@@ -145,7 +147,7 @@ fn first_number_in(items: &[Element]) -> Option<i128>
 // Whether lists of one depth have one size, which are the sizes from a place on.
 #[cycle(sizes)]
 fn has_sizes(element: &Element, sizes: SizesView, from: usize) -> bool
-    requires { from ≤ length (sizes_seen sizes.entry) }
+    requires { from ≤ length (sizes_seen sizes) }
     ensures { result ≡ has_sizes (drop from (sizes_seen sizes.entry)) (nest_of element.now) }
 {
     match element {
@@ -160,7 +162,7 @@ fn has_sizes(element: &Element, sizes: SizesView, from: usize) -> bool
 
 #[cycle(sizes)]
 fn have_sizes(items: &[Element], sizes: SizesView, from: usize) -> bool
-    requires { from ≤ length (sizes_seen sizes.entry) }
+    requires { from ≤ length (sizes_seen sizes) }
     ensures { result ≡ are_sizes (drop from (sizes_seen sizes.entry)) (common_sizes (map nest_of items.now)) }
 {
     if items.is_empty() {

@@ -1,6 +1,6 @@
 //! Positions that are within their vector, and what is picked from the lanes of two.
 
-ghost use Rattle.std.specs.Prelude.{◌≡◌, ◌+◌, ◌-◌, ◌^◌, min, pos, ◌≤ℤ◌, option_map, sum};
+ghost use Rattle.std.specs.Prelude.{◌≡◌, ◌+◌, ◌-◌, ◌^◌, min, option_map, sum, true};
 ghost use Rattle.std.specs.List.{list_all};
 ghost use Rattle.std.specs.Option.{option_map_or};
 ghost use Rattle.av_rules.specs.Constants.{are_below, is_pick, sizes_of};

@@ -167,7 +167,7 @@ fn fills(ty: TypeView, others: SizesView, scaled: bool, to: Elem) -> bool
 
 // Whether the sizes are those at the end of others, each the same or stretched from 1.
 fn stretch(sizes: SizesView, scales: bool, others: SizesView, scaled: bool) -> bool
-    requires { length (sizes_seen sizes.entry) ≤ length (sizes_seen others.entry) }
+    requires { length (sizes_seen sizes) ≤ length (sizes_seen others) }
     ensures {
         result ≡ stretch (sizes_seen sizes.entry) scales
             (drop (length (sizes_seen others.entry) - length (sizes_seen sizes.entry)) (sizes_seen others.entry)) scaled

@@ -27,6 +27,7 @@ pub trait TextTest {
 }
 
 /// Whether some value has the type.
+#[derive(Clone, Copy)]
 pub struct IsType;
 
 impl TextTest for IsType {
