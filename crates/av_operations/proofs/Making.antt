@@ -1,6 +1,7 @@
 -- What the parts of a form make, one after another.
-use Rattle.std.proofs.Common.{◌≡◌, ℕ, List, [], ◌∷◌, ◌++◌, Option, Some, None, refl, ap, ◌∙◌}
+use Rattle.std.proofs.Common.{arith, ◌≡◌, ℕ, ◌<◌, ◌≤◌, List, [], ◌∷◌, ◌++◌, drop, get_or, length, Option, Some, None, refl, ap, sym, ◌∙◌}
 use Rattle.std.specs.Option.{option_map, option_and_then}
+use Rattle.av_dialects.specs.declared.item.Item.{Item}
 use Rattle.av_dialects.specs.declared.item.Lead.{Lead}
 use Rattle.av_dialects.specs.declared.item.Lead.TheVariants as lead
 use Rattle.av_dialects.specs.Rows.{Part, form_of}
@@ -10,7 +11,8 @@ use Rattle.av_tree.specs.Forms.{form_symbols, item_symbols, lead_symbols}
 use Rattle.av_values.specs.declared.gifts.Gift.{Gift}
 use Rattle.av_values.specs.declared.value.Value.{Value}
 use Rattle.av_values.specs.Gifts.{given, unwritten}
-use Rattle.av_values.specs.Made.{by_row, gift_of, made_of, split, taken}
+use Rattle.av_operations.specs.Taking.{item_taken, parts_taken}
+use Rattle.av_values.specs.Made.{blank, by_row, gift_of, made_of, split, taken}
 use Rattle.av_values.specs.Sorts.{All, Sort, a_node, any, on_top, sorts_of}
 use Rattle.av_values.proofs.Taking.{replaced-taken, taken-behind, taken-not-behind}
 
@@ -54,10 +56,9 @@ behind-lead number place p ps types old after h =
     tt old old after (lead-taken p.0 old) h
 
 pub part-made : (number place : ℕ) (p : Part) (ps : List Part) (types : List (Option TypeText)) (own : Gift) (old between new : List Value) (later node : Node)
-    → taken (sorts_of (item_symbols p.1)) (gift_of p.1) old ≡ Some (own, between)
-    → taken (sorts_of (form_symbols ps)) (λ vs. roll-Node (made_of number place ps (types ++ unwritten own.operands) vs)) between ≡ Some (later, new)
-    → node ≡ roll-Node (given own (out-Node later))
-    → taken (sorts_of (form_symbols (p ∷ ps))) (λ vs. roll-Node (made_of number place (p ∷ ps) types vs)) old ≡ Some (node, new)
+    → item_taken p.1 old ≡ Some (own, between) → parts_taken number place ps (types ++ unwritten own.operands) between ≡ Some (later, new)
+    → node ≡ roll-Node (given own (out-Node later)) → parts_taken number place (p ∷ ps) types old ≡ Some (node, new)
+unfolding item_taken parts_taken
 part-made number place p ps types own old between new later node g h e =
     let put : Node → Node = λ n. roll-Node (given own (out-Node n)) in
     let given-later : taken (sorts_of (form_symbols ps)) (with_gift number place ps types own) between ≡ Some (put later, new) =
@@ -67,16 +68,16 @@ part-made number place p ps types own old between new later node g h e =
     (taken-behind (item_symbols p.1) (form_symbols ps) (gift_of p.1) (with_gift number place ps types) own old between (Some (put later, new)) g given-later))
 
 pub part-missing : (number place : ℕ) (p : Part) (ps : List Part) (types : List (Option TypeText)) (old : List Value)
-    → taken (sorts_of (item_symbols p.1)) (gift_of p.1) old ≡ None
-    → taken (sorts_of (form_symbols (p ∷ ps))) (λ vs. roll-Node (made_of number place (p ∷ ps) types vs)) old ≡ None
+    → item_taken p.1 old ≡ None → parts_taken number place (p ∷ ps) types old ≡ None
+unfolding item_taken parts_taken
 part-missing number place p ps types old g =
     behind-lead number place p ps types old None
     (taken-not-behind (item_symbols p.1) (form_symbols ps) (gift_of p.1) (with_gift number place ps types) old g)
 
 pub later-missing : (number place : ℕ) (p : Part) (ps : List Part) (types : List (Option TypeText)) (own : Gift) (old between : List Value)
-    → taken (sorts_of (item_symbols p.1)) (gift_of p.1) old ≡ Some (own, between)
-    → taken (sorts_of (form_symbols ps)) (λ vs. roll-Node (made_of number place ps (types ++ unwritten own.operands) vs)) between ≡ None
-    → taken (sorts_of (form_symbols (p ∷ ps))) (λ vs. roll-Node (made_of number place (p ∷ ps) types vs)) old ≡ None
+    → item_taken p.1 old ≡ Some (own, between) → parts_taken number place ps (types ++ unwritten own.operands) between ≡ None
+    → parts_taken number place (p ∷ ps) types old ≡ None
+unfolding item_taken parts_taken
 later-missing number place p ps types own old between g h =
     let put : Node → Node = λ n. roll-Node (given own (out-Node n)) in
     let none-later : taken (sorts_of (form_symbols ps)) (with_gift number place ps types own) between ≡ None =
@@ -85,17 +86,60 @@ later-missing number place p ps types own old between g h =
     behind-lead number place p ps types old None
     (taken-behind (item_symbols p.1) (form_symbols ps) (gift_of p.1) (with_gift number place ps types) own old between None g none-later)
 
+pub no-part : (number place : ℕ) (types : List (Option TypeText)) (old : List Value) → parts_taken number place [] types old ≡ Some (roll-Node (blank number place types), old)
+unfolding parts_taken taken
+no-part number place types old = refl
+
+-- ---- the first of some parts
+module _ (number place : ℕ) (p : Part) (i : Item) (types all more : List (Option TypeText)) (operands : List (List ℕ)) (own : Gift) (old between : List Value) where
+  -- the item is that of the first part, and a type is opened for each operand of its gift
+  abbrev IsFirst : List Part → List Part → Type 0
+  IsFirst ps behind = (1 ≤ length ps) × (p ≡ get_or ps 0 p) × (i ≡ p.1) × (behind ≡ drop 1 ps)
+
+  abbrev AreOpened : Type 0
+  AreOpened = (all ≡ types ++ more) × (more ≡ unwritten operands) × (operands ≡ own.operands)
+
+  with-item : {made : Option (Gift × List Value)} (ps behind : List Part) (x : Part) → IsFirst (x ∷ ps) behind → item_taken i old ≡ made → item_taken x.1 old ≡ made
+  with-item ps behind x f g = sym (ap (λ j. item_taken j old) (f.2 ∙ ap (λ (q : Part). q.1) f.1)) ∙ g
+
+  with-types : {made : Option (Node × List Value)} (ps behind : List Part) (x : Part) → IsFirst (x ∷ ps) behind → AreOpened
+      → parts_taken number place behind all between ≡ made → parts_taken number place ps (types ++ unwritten own.operands) between ≡ made
+  with-types ps behind x f o g =
+      sym (ap (λ qs. parts_taken number place qs all between) f.3
+      ∙ ap (λ ts. parts_taken number place ps ts between) (o.0 ∙ ap (λ ts. types ++ ts) (o.1 ∙ ap unwritten o.2))) ∙ g
+
+  pub first-made : (ps behind : List Part) (new : List Value) (later node : Node) → IsFirst ps behind → AreOpened
+      → item_taken i old ≡ Some (own, between) → parts_taken number place behind all between ≡ Some (later, new) → node ≡ roll-Node (given own (out-Node later))
+      → parts_taken number place ps types old ≡ Some (node, new)
+  first-made [] behind new later node f o g h e = absurd (let least : 1 ≤ 0 = f.0 in omega arith)
+  first-made (x ∷ ps) behind new later node f o g h e =
+      part-made number place x ps types own old between new later node (with-item ps behind x f g) (with-types ps behind x f o h) e
+
+  pub first-missing : (ps behind : List Part) → IsFirst ps behind → item_taken i old ≡ None → parts_taken number place ps types old ≡ None
+  first-missing [] behind f g = absurd (let least : 1 ≤ 0 = f.0 in omega arith)
+  first-missing (x ∷ ps) behind f g = part-missing number place x ps types old (with-item ps behind x f g)
+
+  pub behind-missing : (ps behind : List Part) → IsFirst ps behind → AreOpened
+      → item_taken i old ≡ Some (own, between) → parts_taken number place behind all between ≡ None → parts_taken number place ps types old ≡ None
+  behind-missing [] behind f o g h = absurd (let least : 1 ≤ 0 = f.0 in omega arith)
+  behind-missing (x ∷ ps) behind f o g h =
+      later-missing number place x ps types own old between (with-item ps behind x f g) (with-types ps behind x f o h)
+
+pub nothing-made : (number place : ℕ) (ps : List Part) (types : List (Option TypeText)) (old : List Value) (node : Node) → length ps < 1
+    → node ≡ roll-Node (blank number place types) → parts_taken number place ps types old ≡ Some (node, old)
+nothing-made number place [] types old node h e = no-part number place types old ∙ ap (λ (n : Node). Some (n, old)) (sym e)
+nothing-made number place (p ∷ ps) types old node h e = absurd (omega arith)
+
 -- ---- the whole operation
-pub operation-made : (number place : ℕ) (old new : List Value) (node : Node)
-    → taken (sorts_of (form_symbols (form_of number))) (λ vs. roll-Node (made_of number place (form_of number) [] vs)) old ≡ Some (node, new)
+pub operation-made : (number place : ℕ) (old new : List Value) (node : Node) → parts_taken number place (form_of number) [] old ≡ Some (node, new)
     → by_row number place old ≡ Some (any a_node node ∷ new)
+unfolding parts_taken
 operation-made number place old new node h =
     replaced-taken (sorts_of (form_symbols (form_of number))) a_node (λ (n : Node). n) (λ vs. roll-Node (made_of number place (form_of number) [] vs)) old
     ∙ ap (option_map (λ (t : Node × List Value). any a_node t.0 ∷ t.1)) h
 
-pub operation-missing : (number place : ℕ) (old : List Value)
-    → taken (sorts_of (form_symbols (form_of number))) (λ vs. roll-Node (made_of number place (form_of number) [] vs)) old ≡ None
-    → by_row number place old ≡ None
+pub operation-missing : (number place : ℕ) (old : List Value) → parts_taken number place (form_of number) [] old ≡ None → by_row number place old ≡ None
+unfolding parts_taken
 operation-missing number place old h =
     replaced-taken (sorts_of (form_symbols (form_of number))) a_node (λ (n : Node). n) (λ vs. roll-Node (made_of number place (form_of number) [] vs)) old
     ∙ ap (option_map (λ (t : Node × List Value). any a_node t.0 ∷ t.1)) h
