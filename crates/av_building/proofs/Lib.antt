@@ -1,2 +1,4 @@
 pub mod Defined
 pub mod Scopes
+pub mod Nests
+pub mod Shorts
