@@ -1,2 +1,4 @@
-pub mod Counts
+pub mod Trees
 pub mod Walk
+pub mod Sizes
+pub mod Both

@@ -10,7 +10,7 @@ use Rattle.av_rules.specs.Places.{Site}
 use Rattle.av_rules.specs.Sites.{behind, in_order, operations_in, operations_within, sites_from, within}
 use Rattle.av_rules.specs.Views.{fields, inside}
 use Rattle.av_place_codes.specs.Trees.{WalkLaw, all_nodes, nodes_within}
-use Rattle.av_place_codes.proofs.Counts.{in-body, in-node, of-body, of-node}
+use Rattle.av_place_codes.proofs.Trees.{in-body, in-node, of-body, of-node}
 
 module _ (most : ℕ) (walk : Site → List Site)
     (all : (site : Site) → operations_in site.node ≤ most → map (λ (s : Site). s.node) (walk site) ≡ all_nodes site.node) where

@@ -1,8 +1,9 @@
 //! How many operands an operation has.
 
-ghost use Rattle.std.specs.Prelude.{◌≡◌, length, map, option_map, slice_get};
-ghost use Rattle.std.specs.Option.{option_and_then, option_copied, option_flatten};
+ghost use Rattle.std.specs.Prelude.{◌≡◌, ◌==◌, true, if◌then◌else◌, length, option_map, slice_get};
+ghost use Rattle.std.specs.Option.{option_and_then, option_copied, option_flatten, option_map_or};
 ghost use Rattle.av_rules.specs.Counts.{counts, hands_on_enough, has_operands, sizes_written, written_at};
+ghost use Rattle.av_rules.specs.Places.{Holder as Held};
 ghost use Rattle.av_sites.specs.Parts.{holder_with};
 ghost use Rattle.av_sites.specs.Rows.{row_with};
 

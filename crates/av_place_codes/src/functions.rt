@@ -1,6 +1,6 @@
 //! Functions: their names, and the types that they may take and give.
 
-ghost use Rattle.std.specs.Prelude.{◌≡◌, codes, option_map};
+ghost use Rattle.std.specs.Prelude.{◌≡◌, false, codes, option_map};
 ghost use Rattle.std.specs.Option.{option_and_then, option_map_or};
 ghost use Rattle.av_rules.specs.Entries.{entry_of, function_of};
 ghost use Rattle.av_rules.specs.Limits.{has_function_types, has_plain_types, is_memref_text, is_new_function};

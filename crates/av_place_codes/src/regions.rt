@@ -1,14 +1,17 @@
 //! The regions of an operation: how many there are, with how many arguments, and how they end.
 
-ghost use Rattle.std.specs.Prelude.{◌≡◌, ◌==◌, codes, length, option_map};
+ghost use Rattle.std.specs.Prelude.{◌≡◌, ◌==◌, ◌∷◌, true, false, Option, List, codes, length, option_map};
 ghost use Rattle.std.specs.List.{list_all};
 ghost use Rattle.std.specs.Option.{option_and_then, option_map_or};
+ghost use Rattle.av_ir.specs.declared.ty.Ty.{Ty};
 ghost use Rattle.av_rules.specs.Agreement.{argument_types};
 ghost use Rattle.av_rules.specs.Entries.{entry_of, function_of};
 ghost use Rattle.av_rules.specs.Places.{operand_types};
 ghost use Rattle.av_rules.specs.Regions.{ends_well, has_regions, is_end, is_terminator, last_of, regions_end};
 ghost use Rattle.av_rules.specs.Rows.{is_end_of, region_count};
+ghost use Rattle.av_rules.specs.Typing.{index_type};
 ghost use Rattle.av_rules.specs.Views.{Function, inside};
+ghost use Rattle.av_signatures.specs.declared.signature.Role.TheVariants.{Holds};
 ghost use Rattle.av_sites.specs.Parts.{holder_with};
 ghost use Rattle.av_sites.specs.Rows.{row_with};
 
@@ -101,36 +104,69 @@ fn region_count(role: Role) -> usize
 }
 
 // How many arguments each region has to have, where that is known.
-fn argument_count(row: &Signature, node: &Node, types: &[Option<Ty>]) -> Option<u128>
+fn argument_count(row: &Signature, node: &Node, types: &[Option<Ty>]) -> Option<usize>
     ensures {
         (name : _) (site : _) → operand_types (record site { node = node.now }) ≡ types.now
         → result ≡ option_map (λ list. length list) (argument_types (row_with name row.now) (record site { node = node.now }) row.now.role)
     }
 {
     match row.role {
-        Role::Holds(_, Arguments::Inputs, _) => input_count(node),
-        Role::Holds(_, Arguments::Turn, _) => match carried_types(row, node, types) {
-            Some(types) => Some(types.len() as u128 + 1),
-            None => None,
-        },
+        Role::Holds(_, arguments, _) => count_of(arguments, row, node, types),
         _ => Some(0),
     }
 }
 
-fn input_count(node: &Node) -> Option<u128>
-    ensures { result ≡ option_map (λ (f : Function). length f.inputs) (option_and_then function_of (entry_of (codes "function_type") node.now)) }
+fn count_of(
+    arguments: Arguments,
+    row: &Signature,
+    node: &Node,
+    types: &[Option<Ty>],
+) -> Option<usize>
+    ensures {
+        (name : _) (site : _) → operand_types (record site { node = node.now }) ≡ types.now → (count : _) (ending : _)
+        → result ≡ option_map (λ list. length list) (argument_types (row_with name row.now) (record site { node = node.now }) (Holds count arguments ending))
+    }
 {
-    match function_type(node) {
-        Some(function) => Some(function.inputs.len() as u128),
+    match arguments {
+        Arguments::Inputs => input_count(node),
+        Arguments::Turn => turn_count(carried_types(row, node, types)),
+        Arguments::None => Some(0),
+    }
+}
+
+// One for the counter, and one for each carried value.
+fn turn_count(carried: Option<&[Option<Ty>]>) -> Option<usize>
+    ensures { result ≡ option_map (λ list. length list) (option_map (λ list. Some index_type ∷ list) (option_map (λ list. list.now) carried.entry)) }
+{
+    match carried {
+        Some(types) => Some(types.len() + 1),
         None => None,
     }
 }
 
-fn take_so_many(bodies: &[Body], count: Option<u128>) -> bool
-    ensures { result ≡ list_all (λ body. option_map_or (λ n. length (inside body).args == n) count true) bodies.now }
+fn input_count(node: &Node) -> Option<usize>
+    ensures { result ≡ option_map (λ (f : Function). length f.inputs) (option_and_then function_of (entry_of (codes "function_type") node.now)) }
+{
+    match function_type(node) {
+        Some(function) => Some(function.inputs.len()),
+        None => None,
+    }
+}
+
+fn take_so_many(bodies: &[Body], count: Option<usize>) -> bool
+    ensures {
+        (types : Option (List (Option Ty))) → count ≡ option_map (λ list. length list) types
+        → result ≡ list_all (λ body. option_map_or (λ list. length (inside body).args == length list) types true) bodies.now
+    }
 {
     match count {
-        Some(count) => bodies.iter().all(|body| args(body).len() as u128 == count),
+        Some(count) => take(bodies, count),
         None => true,
     }
+}
+
+fn take(bodies: &[Body], count: usize) -> bool
+    ensures { result ≡ list_all (λ body. length (inside body).args == count) bodies.now }
+{
+    bodies.iter().all(|body| args(body).len() == count)
 }

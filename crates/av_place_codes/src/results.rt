@@ -1,6 +1,6 @@
 //! How many results an operation has.
 
-ghost use Rattle.std.specs.Prelude.{◌≡◌, ◌==◌, not, option_map};
+ghost use Rattle.std.specs.Prelude.{◌≡◌, ◌==◌, true, not, option_map};
 ghost use Rattle.std.specs.List.{list_all};
 ghost use Rattle.std.specs.Option.{option_map_or};
 ghost use Rattle.av_rules.specs.Counts.{count_from, has_results};

@@ -2,7 +2,7 @@ use Rattle.std.proofs.Common.{rules, ◌∙◌, ◌-◌, ◌^◌, min, map, ap, 
 use Rattle.std.specs.Prelude.{sum}
 use Rattle.av_tree.specs.declared.node.Node.{out-Node}
 use Rattle.av_rules.specs.Sites.{operations_in, operations_within}
-use Rattle.av_place_codes.proofs.Counts.{count-more, counted-body, counted-node, one-more}
+use Rattle.av_place_codes.proofs.Trees.{count-more, counted-body, counted-node, one-more}
 use Rattle.av_place_codes.proofs.operations.+counting.Goals as goal
 
 pub operations_in-returns : goal.operations_in-returns
