@@ -23,6 +23,7 @@ const MAX_VECTOR_RANK: usize = 3;
 const MAX_LANES: u128 = 256;
 
 /// That a type is within its limits as it is written.
+#[derive(Clone, Copy)]
 struct WithinLimits;
 
 impl TextTest for WithinLimits {
@@ -34,6 +35,7 @@ impl TextTest for WithinLimits {
 }
 
 /// That a type is within its limits, which may not be written.
+#[derive(Clone, Copy)]
 struct Limited;
 
 impl TypeTest for Limited {

@@ -1,14 +1,17 @@
 //! Where an operation may stand, and which operations and types a mode takes.
 
-ghost use Rattle.std.specs.Prelude.{◌≡◌, ◌||◌, if◌then◌else◌, not, option_map};
+ghost use Rattle.std.specs.Prelude.{◌≡◌, true, false, if◌then◌else◌, codes, not, option_map};
 ghost use Rattle.std.specs.List.{list_any};
+ghost use Rattle.std.specs.Option.{option_and_then, option_map_or};
 ghost use Rattle.std.specs.Str.{bytes_eq};
 ghost use Rattle.av_rules.specs.declared.mode.Mode.TheVariants.{Run};
+ghost use Rattle.av_rules.specs.Entries.{entry_of, function_of};
 ghost use Rattle.av_rules.specs.Limits.{has_function_types, has_plain_types, is_memref_text, is_trailed, may_stand, may_stand_in, takes_operation, takes_result, takes_type};
 ghost use Rattle.av_rules.specs.Rows.{is_of_scalar_mode, is_scalar_level};
 ghost use Rattle.av_rules.specs.Typing.{result_types};
 ghost use Rattle.av_rules.specs.Views.{fields};
 ghost use Rattle.av_types.specs.Texts.{is_trailing, is_vector_text};
+ghost use Rattle.av_signatures.specs.declared.signature.Signature.{Signature};
 ghost use Rattle.av_sites.specs.Parts.{function_seen, holder_with};
 ghost use Rattle.av_sites.specs.Rows.{row_with};
 ghost use Rattle.av_sites.specs.TypeViews.{results_seen, type_seen};
@@ -25,6 +28,7 @@ use av_type_codes::{TextTest, TypeTest, every_argument, every_result, every_writ
 use av_types::{is_trailing, is_vector_text};
 
 /// That a mode takes a type.
+#[derive(Clone, Copy)]
 struct InMode<'m>(&'m Mode);
 
 impl<'m> TextTest for InMode<'m> {
@@ -44,6 +48,7 @@ impl<'m> TypeTest for InMode<'m> {
 }
 
 /// That a type isn't that of vectors.
+#[derive(Clone, Copy)]
 struct NoVector;
 
 impl TextTest for NoVector {
@@ -55,6 +60,7 @@ impl TextTest for NoVector {
 }
 
 /// That only the last dimension of a type is scalable.
+#[derive(Clone, Copy)]
 struct Trailing;
 
 impl TextTest for Trailing {
