@@ -8,7 +8,7 @@ ghost use Rattle.av_ir.specs.declared.ty.Ty.TheVariants.{Vector};
 ghost use Rattle.av_ir.specs.Values.{width_of};
 ghost use Rattle.av_rules.specs.Constants.{Leaf, all_same, common_sizes, leaf_fits, nest_fits, nest_of};
 ghost use Rattle.av_sites.specs.TypeViews.{sizes_seen, type_seen};
-ghost use Rattle.av_type_codes.specs.Nests.{are_sizes, fills, has_pattern, has_sizes, leaf_of};
+ghost use Rattle.av_type_codes.specs.Nested.{are_sizes, fills, has_pattern, has_sizes, leaf_of};
 
 use super::numbers::fits;
 use super::relations::size_in;
@@ -96,6 +96,7 @@ fn all_same(elements: &Element, elem: Elem) -> bool
 }
 
 #[cycle(leaves)]
+#[tactic(auto, using(crate::proofs::InNests::kinds))]
 fn every_leaf<T: LeafTest>(test: &T, element: &Element) -> bool
     ensures { result ≡ list_all (T.passes test.now) (nest_of element.now).leaves }
 {
@@ -108,6 +109,7 @@ fn every_leaf<T: LeafTest>(test: &T, element: &Element) -> bool
 }
 
 #[cycle(leaves)]
+#[tactic(auto, using(crate::proofs::InNests::kinds))]
 fn every_leaf_in<T: LeafTest>(test: &T, items: &[Element]) -> bool
     ensures { result ≡ list_all (T.passes test.now) (flat_map (λ item. (nest_of item).leaves) items.now) }
 {
@@ -121,6 +123,7 @@ fn every_leaf_in<T: LeafTest>(test: &T, items: &[Element]) -> bool
 
 // The number of the first leaf.
 #[cycle(first)]
+#[tactic(auto, using(crate::proofs::InNests::kinds))]
 fn first_number(element: &Element) -> Option<i128>
     ensures { result ≡ option_map (λ leaf. leaf.number) (slice_get (nest_of element.now).leaves 0) }
 {
@@ -133,6 +136,7 @@ fn first_number(element: &Element) -> Option<i128>
 }
 
 #[cycle(first)]
+#[tactic(auto, using(crate::proofs::InNests::kinds))]
 fn first_number_in(items: &[Element]) -> Option<i128>
     ensures { result ≡ option_map (λ leaf. leaf.number) (slice_get (flat_map (λ item. (nest_of item).leaves) items.now) 0) }
 {
@@ -146,6 +150,7 @@ fn first_number_in(items: &[Element]) -> Option<i128>
 
 // Whether lists of one depth have one size, which are the sizes from a place on.
 #[cycle(sizes)]
+#[tactic(auto, using(crate::proofs::InNests::kinds))]
 fn has_sizes(element: &Element, sizes: SizesView, from: usize) -> bool
     requires { from ≤ length (sizes_seen sizes) }
     ensures { result ≡ has_sizes (drop from (sizes_seen sizes.entry)) (nest_of element.now) }
@@ -161,6 +166,7 @@ fn has_sizes(element: &Element, sizes: SizesView, from: usize) -> bool
 }
 
 #[cycle(sizes)]
+#[tactic(auto, using(crate::proofs::InNests::kinds))]
 fn have_sizes(items: &[Element], sizes: SizesView, from: usize) -> bool
     requires { from ≤ length (sizes_seen sizes) }
     ensures { result ≡ are_sizes (drop from (sizes_seen sizes.entry)) (common_sizes (map nest_of items.now)) }
