@@ -1,2 +1,4 @@
 pub mod Inside
 pub mod InNests
+pub mod Scans
+pub mod TypeLists

@@ -73,6 +73,7 @@ fn are_written(texts: &[Option<TypeText>], types: ResultTypes) -> bool
     }
 }
 
+#[tactic(auto, using(crate::proofs::TypeLists::in_read))]
 fn all_written(texts: &[Option<TypeText>], types: ResultTypes) -> bool
     requires { length (unwrap_or (results_seen types) []) ≡ length texts.now }
     ensures { result ≡ pointwise is_written_as texts.now (unwrap_or (results_seen types.entry) []) }

@@ -53,6 +53,7 @@ pub fn every_result<T: TypeTest>(test: &T, results: ResultTypes) -> bool
     }
 }
 
+#[tactic(auto, using(crate::proofs::TypeLists::in_read))]
 fn every_below<T: TypeTest>(test: &T, results: ResultTypes, count: usize) -> bool
     requires { count ≡ length (unwrap_or (results_seen results) []) }
     ensures { result ≡ list_all (if_known (T.passes test.now)) (unwrap_or (results_seen results.entry) []) }

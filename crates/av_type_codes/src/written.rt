@@ -1,6 +1,6 @@
 //! The types that stand at an operation, and a question that is asked of each.
 
-ghost use Rattle.std.specs.Prelude.{◌≡◌, Bool, flat_map, map, not};
+ghost use Rattle.std.specs.Prelude.{◌≡◌, ◌||◌, Bool, flat_map, map, not};
 ghost use Rattle.std.specs.List.{filter, list_all};
 ghost use Rattle.std.specs.Option.{option_to_list};
 ghost use Rattle.av_rules.specs.Agreement.{parts_of_type, types_in, types_of_arguments, types_written};
@@ -119,11 +119,20 @@ fn every_kept<T: TextTest>(test: &T, row: &Signature, entries: &[Named]) -> bool
     }
 {
     for entry in entries {
-        if !is_dropped(row, entry.name.as_slice()) && !every_in(test, &entry.value) {
+        if !passes_entry(test, row, entry) {
             return false;
         }
     }
     true
+}
+
+// Whether an entry is dropped, or all types in it pass.
+fn passes_entry<T: TextTest>(test: &T, row: &Signature, entry: &Named) -> bool
+    ensures {
+        (own : _) → result ≡ (is_dropped (row_with own row.now) entry.now.name || list_all (T.passes test.now) (types_in entry.now.value))
+    }
+{
+    is_dropped(row, entry.name.as_slice()) || every_in(test, &entry.value)
 }
 
 /// Whether all types in an attribute pass.
