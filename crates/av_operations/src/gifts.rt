@@ -1,10 +1,9 @@
 //! What the items of forms give to an operation, by the values on the stack.
 
-ghost use Rattle.std.specs.Prelude.{◌≡◌, [], ◌∷◌, Some, None, IfErr, IfOk};
+ghost use Rattle.std.specs.Prelude.{◌≡◌, [], ◌∷◌, None, Some, IfErr, IfOk};
 ghost use Rattle.av_dialects.specs.declared.item.Item.TheVariants as items;
-ghost use Rattle.av_tree.specs.Forms.{angled_symbols, item_symbols, word_symbols};
-ghost use Rattle.av_values.specs.Made.{access as the_access, angled_gift, applied as the_applied, carrying as the_carrying, gift as the_gift, gift_of, operands_alone as the_operands_alone, property_alone as the_property_alone, taken, word_gift};
-ghost use Rattle.av_values.specs.Sorts.{sorts_of};
+ghost use Rattle.av_values.specs.Made.{access as the_access, applied as the_applied, carrying as the_carrying, gift as the_gift, operands_alone as the_operands_alone, property_alone as the_property_alone};
+ghost use Rattle.av_operations.specs.Taking.{item_taken};
 
 use av_affine::{Seq, Text};
 use av_dialects::{Item, Key, Slots, Typing, Wanted, property};
@@ -17,10 +16,10 @@ use av_values::subscripts::{Numbering, place_map};
 use av_values::value::{Carried, Expression, MapUse, TypedValues};
 use std::alloc::Global;
 
-// What an item gives.
+/// What an item gives.
 pub(super) fn take_gift(stack: &mut Stack, item: Item) -> Result<Gift, Fault>
-    ensures ok { IfOk result (λ gift. taken (sorts_of (item_symbols item)) (gift_of item) stack.old ≡ Some (gift, stack.new)) }
-    ensures misshapen { IfErr result (λ fault. fault ≡ Fault.Misshapen → taken (sorts_of (item_symbols item)) (gift_of item) stack.old ≡ None) }
+    ensures ok { IfOk result (λ gift. item_taken item stack.old ≡ Some (gift, stack.new)) }
+    ensures misshapen { IfErr result (λ fault. fault ≡ Fault.Misshapen → item_taken item stack.old ≡ None) }
 {
     match item {
         Item::ByHand => by_hand(stack),
@@ -51,29 +50,29 @@ pub(super) fn take_gift(stack: &mut Stack, item: Item) -> Result<Gift, Fault>
     }
 }
 
-#[tactic(auto, using(av_values::proofs::Taking::taking))]
+#[tactic(auto, using(crate::proofs::Items::taking), unfolding(crate::specs::Taking::item_taken))]
 fn operand(stack: &mut Stack, typing: Typing) -> Result<Gift, Fault>
-    ensures ok { IfOk result (λ gift. taken (sorts_of (item_symbols (items.Operand typing))) (gift_of (items.Operand typing)) stack.old ≡ Some (gift, stack.new)) }
-    ensures misshapen { IfErr result (λ fault. fault ≡ Fault.Misshapen → taken (sorts_of (item_symbols (items.Operand typing))) (gift_of (items.Operand typing)) stack.old ≡ None) }
+    ensures ok { IfOk result (λ gift. item_taken (items.Operand typing) stack.old ≡ Some (gift, stack.new)) }
+    ensures misshapen { IfErr result (λ fault. fault ≡ Fault.Misshapen → item_taken (items.Operand typing) stack.old ≡ None) }
 {
     let value = stack.text()?;
     let operands = one_before(value, Seq::new(stack.alloc()))?;
     Ok(operands_alone(operands))
 }
 
-#[tactic(auto, using(av_values::proofs::Taking::taking))]
+#[tactic(auto, using(crate::proofs::Items::taking), unfolding(crate::specs::Taking::item_taken))]
 fn several(stack: &mut Stack) -> Result<Gift, Fault>
-    ensures ok { IfOk result (λ gift. taken (sorts_of (item_symbols items.OptionalOperand)) (gift_of items.OptionalOperand) stack.old ≡ Some (gift, stack.new)) }
-    ensures misshapen { IfErr result (λ fault. fault ≡ Fault.Misshapen → taken (sorts_of (item_symbols items.OptionalOperand)) (gift_of items.OptionalOperand) stack.old ≡ None) }
+    ensures ok { IfOk result (λ gift. item_taken items.OptionalOperand stack.old ≡ Some (gift, stack.new)) }
+    ensures misshapen { IfErr result (λ fault. fault ≡ Fault.Misshapen → item_taken items.OptionalOperand stack.old ≡ None) }
 {
     let values = stack.texts()?;
     Ok(operands_alone(in_order(values)))
 }
 
-#[tactic(auto, using(av_values::proofs::Taking::taking))]
+#[tactic(auto, using(crate::proofs::Items::taking), unfolding(crate::specs::Taking::item_taken))]
 fn operands(stack: &mut Stack) -> Result<Gift, Fault>
-    ensures ok { IfOk result (λ gift. taken (sorts_of (item_symbols items.Operands)) (gift_of items.Operands) stack.old ≡ Some (gift, stack.new)) }
-    ensures misshapen { IfErr result (λ fault. fault ≡ Fault.Misshapen → taken (sorts_of (item_symbols items.Operands)) (gift_of items.Operands) stack.old ≡ None) }
+    ensures ok { IfOk result (λ gift. item_taken items.Operands stack.old ≡ Some (gift, stack.new)) }
+    ensures misshapen { IfErr result (λ fault. fault ≡ Fault.Misshapen → item_taken items.Operands stack.old ≡ None) }
 {
     let first = stack.text()?;
     let others = stack.texts()?;
@@ -81,10 +80,10 @@ fn operands(stack: &mut Stack) -> Result<Gift, Fault>
     Ok(operands_alone(operands))
 }
 
-#[tactic(auto, using(av_values::proofs::Taking::taking))]
+#[tactic(auto, using(crate::proofs::Items::taking), unfolding(crate::specs::Taking::item_taken))]
 fn element(stack: &mut Stack) -> Result<Gift, Fault>
-    ensures ok { IfOk result (λ gift. taken (sorts_of (item_symbols items.Element)) (gift_of items.Element) stack.old ≡ Some (gift, stack.new)) }
-    ensures misshapen { IfErr result (λ fault. fault ≡ Fault.Misshapen → taken (sorts_of (item_symbols items.Element)) (gift_of items.Element) stack.old ≡ None) }
+    ensures ok { IfOk result (λ gift. item_taken items.Element stack.old ≡ Some (gift, stack.new)) }
+    ensures misshapen { IfErr result (λ fault. fault ≡ Fault.Misshapen → item_taken items.Element stack.old ≡ None) }
 {
     let first = stack.text()?;
     let others = stack.texts()?;
@@ -92,120 +91,164 @@ fn element(stack: &mut Stack) -> Result<Gift, Fault>
     Ok(operands_alone(operands))
 }
 
-#[tactic(auto, using(av_values::proofs::Taking::taking))]
+#[tactic(auto, using(crate::proofs::Items::taking), unfolding(crate::specs::Taking::item_taken))]
 fn typed(stack: &mut Stack) -> Result<Gift, Fault>
-    ensures ok { IfOk result (λ gift. taken (sorts_of (item_symbols items.TypedOperands)) (gift_of items.TypedOperands) stack.old ≡ Some (gift, stack.new)) }
-    ensures misshapen { IfErr result (λ fault. fault ≡ Fault.Misshapen → taken (sorts_of (item_symbols items.TypedOperands)) (gift_of items.TypedOperands) stack.old ≡ None) }
+    ensures ok { IfOk result (λ gift. item_taken items.TypedOperands stack.old ≡ Some (gift, stack.new)) }
+    ensures misshapen { IfErr result (λ fault. fault ≡ Fault.Misshapen → item_taken items.TypedOperands stack.old ≡ None) }
 {
-    let TypedValues { values, types } = stack.typed_values()?;
+    let both = stack.typed_values()?;
+    let TypedValues { values, types } = both;
+    let operands = in_order(values);
+    let types = in_order(types);
     Ok(Gift {
-        operands: in_order(values),
-        change: Change::Typed(in_order(types)),
+        operands,
+        change: Change::Typed(types),
     })
 }
 
-#[tactic(auto, using(av_values::proofs::Taking::taking))]
+#[tactic(auto, using(crate::proofs::Items::taking), unfolding(crate::specs::Taking::item_taken))]
 fn a_type(stack: &mut Stack, wanted: Wanted, slots: Slots) -> Result<Gift, Fault>
-    ensures ok { IfOk result (λ gift. taken (sorts_of (item_symbols (items.Type wanted slots))) (gift_of (items.Type wanted slots)) stack.old ≡ Some (gift, stack.new)) }
-    ensures misshapen { IfErr result (λ fault. fault ≡ Fault.Misshapen → taken (sorts_of (item_symbols (items.Type wanted slots))) (gift_of (items.Type wanted slots)) stack.old ≡ None) }
+    ensures ok { IfOk result (λ gift. item_taken (items.Type wanted slots) stack.old ≡ Some (gift, stack.new)) }
+    ensures misshapen { IfErr result (λ fault. fault ≡ Fault.Misshapen → item_taken (items.Type wanted slots) stack.old ≡ None) }
 {
     let ty = stack.ty()?;
     Ok(change_alone(stack.alloc(), Change::Filled(slots, ty)))
 }
 
-#[tactic(auto, using(av_values::proofs::Taking::taking))]
+#[tactic(auto, using(crate::proofs::Items::taking), unfolding(crate::specs::Taking::item_taken))]
 fn chosen(stack: &mut Stack) -> Result<Gift, Fault>
-    ensures ok { IfOk result (λ gift. taken (sorts_of (item_symbols items.ChoiceTypes)) (gift_of items.ChoiceTypes) stack.old ≡ Some (gift, stack.new)) }
-    ensures misshapen { IfErr result (λ fault. fault ≡ Fault.Misshapen → taken (sorts_of (item_symbols items.ChoiceTypes)) (gift_of items.ChoiceTypes) stack.old ≡ None) }
+    ensures ok { IfOk result (λ gift. item_taken items.ChoiceTypes stack.old ≡ Some (gift, stack.new)) }
+    ensures misshapen { IfErr result (λ fault. fault ≡ Fault.Misshapen → item_taken items.ChoiceTypes stack.old ≡ None) }
 {
     let types = stack.selected()?;
     Ok(change_alone(stack.alloc(), Change::Chosen(types)))
 }
 
-#[tactic(auto, using(av_values::proofs::Taking::taking))]
+#[tactic(auto, using(crate::proofs::Items::taking), unfolding(crate::specs::Taking::item_taken))]
+fn word(stack: &mut Stack, key: Key) -> Result<Gift, Fault>
+    ensures ok { IfOk result (λ gift. item_taken (items.Word key) stack.old ≡ Some (gift, stack.new)) }
+    ensures misshapen { IfErr result (λ fault. fault ≡ Fault.Misshapen → item_taken (items.Word key) stack.old ≡ None) }
+{
+    let alloc = stack.alloc();
+    match key {
+        Key::Predicate => {
+            let word = stack.text()?;
+            let value = predicate(alloc, &word)?;
+            let gift = property_alone(alloc, b"predicate", value)?;
+            Ok(gift)
+        }
+        Key::Kind => {
+            let word = stack.text()?;
+            let value = kind(alloc, word)?;
+            let gift = property_alone(alloc, b"kind", value)?;
+            Ok(gift)
+        }
+        Key::StaticPosition | Key::Mask => Ok(operands_alone(Seq::new(alloc))),
+    }
+}
+
+fn angled(stack: &mut Stack, key: Key) -> Result<Gift, Fault>
+    ensures ok { IfOk result (λ gift. item_taken (items.Angled key) stack.old ≡ Some (gift, stack.new)) }
+    ensures misshapen { IfErr result (λ fault. fault ≡ Fault.Misshapen → item_taken (items.Angled key) stack.old ≡ None) }
+{
+    word(stack, key)
+}
+
+#[tactic(auto, using(crate::proofs::Items::taking), unfolding(crate::specs::Taking::item_taken))]
 fn numbers(stack: &mut Stack, key: Key) -> Result<Gift, Fault>
-    ensures ok { IfOk result (λ gift. taken (sorts_of (item_symbols (items.Numbers key))) (gift_of (items.Numbers key)) stack.old ≡ Some (gift, stack.new)) }
-    ensures misshapen { IfErr result (λ fault. fault ≡ Fault.Misshapen → taken (sorts_of (item_symbols (items.Numbers key))) (gift_of (items.Numbers key)) stack.old ≡ None) }
+    ensures ok { IfOk result (λ gift. item_taken (items.Numbers key) stack.old ≡ Some (gift, stack.new)) }
+    ensures misshapen { IfErr result (λ fault. fault ≡ Fault.Misshapen → item_taken (items.Numbers key) stack.old ≡ None) }
 {
     let alloc = stack.alloc();
     let numbers = stack.numbers()?;
     let value = positions(alloc, in_order(numbers))?;
-    property_alone(alloc, property(key).as_bytes(), value)
+    let gift = property_alone(alloc, property(key).as_bytes(), value)?;
+    Ok(gift)
 }
 
-#[tactic(auto, using(av_values::proofs::Taking::taking))]
+#[tactic(auto, using(crate::proofs::Items::taking), unfolding(crate::specs::Taking::item_taken))]
 fn overflow(stack: &mut Stack) -> Result<Gift, Fault>
-    ensures ok { IfOk result (λ gift. taken (sorts_of (item_symbols items.Overflow)) (gift_of items.Overflow) stack.old ≡ Some (gift, stack.new)) }
-    ensures misshapen { IfErr result (λ fault. fault ≡ Fault.Misshapen → taken (sorts_of (item_symbols items.Overflow)) (gift_of items.Overflow) stack.old ≡ None) }
+    ensures ok { IfOk result (λ gift. item_taken items.Overflow stack.old ≡ Some (gift, stack.new)) }
+    ensures misshapen { IfErr result (λ fault. fault ≡ Fault.Misshapen → item_taken items.Overflow stack.old ≡ None) }
 {
     let entries = stack.entries()?;
-    Ok(change_alone(stack.alloc(), Change::Properties(in_order(entries))))
+    Ok(change_alone(
+        stack.alloc(),
+        Change::Properties(in_order(entries)),
+    ))
 }
 
-#[tactic(auto, using(av_values::proofs::Taking::taking))]
+#[tactic(auto, using(crate::proofs::Items::taking), unfolding(crate::specs::Taking::item_taken))]
 fn marks(stack: &mut Stack) -> Result<Gift, Fault>
-    ensures ok { IfOk result (λ gift. taken (sorts_of (item_symbols items.Marks)) (gift_of items.Marks) stack.old ≡ Some (gift, stack.new)) }
-    ensures misshapen { IfErr result (λ fault. fault ≡ Fault.Misshapen → taken (sorts_of (item_symbols items.Marks)) (gift_of items.Marks) stack.old ≡ None) }
+    ensures ok { IfOk result (λ gift. item_taken items.Marks stack.old ≡ Some (gift, stack.new)) }
+    ensures misshapen { IfErr result (λ fault. fault ≡ Fault.Misshapen → item_taken items.Marks stack.old ≡ None) }
 {
     let entries = stack.entries()?;
-    Ok(change_alone(stack.alloc(), Change::Attributes(in_order(entries))))
+    Ok(change_alone(
+        stack.alloc(),
+        Change::Attributes(in_order(entries)),
+    ))
 }
 
-#[tactic(auto, using(av_values::proofs::Taking::taking))]
+#[tactic(auto, using(crate::proofs::Items::taking), unfolding(crate::specs::Taking::item_taken))]
 fn constant(stack: &mut Stack) -> Result<Gift, Fault>
-    ensures ok { IfOk result (λ gift. taken (sorts_of (item_symbols items.Constant)) (gift_of items.Constant) stack.old ≡ Some (gift, stack.new)) }
-    ensures misshapen { IfErr result (λ fault. fault ≡ Fault.Misshapen → taken (sorts_of (item_symbols items.Constant)) (gift_of items.Constant) stack.old ≡ None) }
+    ensures ok { IfOk result (λ gift. item_taken items.Constant stack.old ≡ Some (gift, stack.new)) }
+    ensures misshapen { IfErr result (λ fault. fault ≡ Fault.Misshapen → item_taken items.Constant stack.old ≡ None) }
 {
     let constant = stack.constant()?;
     Ok(change_alone(stack.alloc(), Change::Valued(constant)))
 }
 
-#[tactic(auto, using(av_values::proofs::Taking::taking))]
+#[tactic(auto, using(crate::proofs::Items::taking), unfolding(crate::specs::Taking::item_taken))]
 fn a_map(stack: &mut Stack) -> Result<Gift, Fault>
-    ensures ok { IfOk result (λ gift. taken (sorts_of (item_symbols items.Map)) (gift_of items.Map) stack.old ≡ Some (gift, stack.new)) }
-    ensures misshapen { IfErr result (λ fault. fault ≡ Fault.Misshapen → taken (sorts_of (item_symbols items.Map)) (gift_of items.Map) stack.old ≡ None) }
+    ensures ok { IfOk result (λ gift. item_taken items.Map stack.old ≡ Some (gift, stack.new)) }
+    ensures misshapen { IfErr result (λ fault. fault ≡ Fault.Misshapen → item_taken items.Map stack.old ≡ None) }
 {
     let alloc = stack.alloc();
     let map_use = stack.map_use()?;
-    applied(alloc, b"map", map_use)
+    let gift = applied(alloc, b"map", map_use)?;
+    Ok(gift)
 }
 
-#[tactic(auto, using(av_values::proofs::Taking::taking))]
+#[tactic(auto, using(crate::proofs::Items::taking), unfolding(crate::specs::Taking::item_taken))]
 fn a_set(stack: &mut Stack) -> Result<Gift, Fault>
-    ensures ok { IfOk result (λ gift. taken (sorts_of (item_symbols items.Set)) (gift_of items.Set) stack.old ≡ Some (gift, stack.new)) }
-    ensures misshapen { IfErr result (λ fault. fault ≡ Fault.Misshapen → taken (sorts_of (item_symbols items.Set)) (gift_of items.Set) stack.old ≡ None) }
+    ensures ok { IfOk result (λ gift. item_taken items.Set stack.old ≡ Some (gift, stack.new)) }
+    ensures misshapen { IfErr result (λ fault. fault ≡ Fault.Misshapen → item_taken items.Set stack.old ≡ None) }
 {
     let alloc = stack.alloc();
     let map_use = stack.map_use()?;
-    applied(alloc, b"condition", map_use)
+    let gift = applied(alloc, b"condition", map_use)?;
+    Ok(gift)
 }
 
-#[tactic(auto, using(av_values::proofs::Taking::taking))]
+#[tactic(auto, using(crate::proofs::Items::taking), unfolding(crate::specs::Taking::item_taken))]
 fn access(stack: &mut Stack) -> Result<Gift, Fault>
-    ensures ok { IfOk result (λ gift. taken (sorts_of (item_symbols items.Access)) (gift_of items.Access) stack.old ≡ Some (gift, stack.new)) }
-    ensures misshapen { IfErr result (λ fault. fault ≡ Fault.Misshapen → taken (sorts_of (item_symbols items.Access)) (gift_of items.Access) stack.old ≡ None) }
+    ensures ok { IfOk result (λ gift. item_taken items.Access stack.old ≡ Some (gift, stack.new)) }
+    ensures misshapen { IfErr result (λ fault. fault ≡ Fault.Misshapen → item_taken items.Access stack.old ≡ None) }
 {
     let alloc = stack.alloc();
     let buffer = stack.text()?;
     let subscripts = stack.expressions()?;
-    place_of(alloc, buffer, subscripts)
+    let gift = place_of(alloc, buffer, subscripts)?;
+    Ok(gift)
 }
 
-#[tactic(auto, using(av_values::proofs::Taking::taking))]
+#[tactic(auto, using(crate::proofs::Items::taking), unfolding(crate::specs::Taking::item_taken))]
 fn counter(stack: &mut Stack) -> Result<Gift, Fault>
-    ensures ok { IfOk result (λ gift. taken (sorts_of (item_symbols items.Counter)) (gift_of items.Counter) stack.old ≡ Some (gift, stack.new)) }
-    ensures misshapen { IfErr result (λ fault. fault ≡ Fault.Misshapen → taken (sorts_of (item_symbols items.Counter)) (gift_of items.Counter) stack.old ≡ None) }
+    ensures ok { IfOk result (λ gift. item_taken items.Counter stack.old ≡ Some (gift, stack.new)) }
+    ensures misshapen { IfErr result (λ fault. fault ≡ Fault.Misshapen → item_taken items.Counter stack.old ≡ None) }
 {
     let name = stack.text()?;
     Ok(change_alone(stack.alloc(), Change::Counting(name)))
 }
 
-#[tactic(auto, using(av_values::proofs::Taking::taking))]
+#[tactic(auto, using(crate::proofs::Items::taking), unfolding(crate::specs::Taking::item_taken))]
 fn lower_bound(stack: &mut Stack) -> Result<Gift, Fault>
-    ensures ok { IfOk result (λ gift. taken (sorts_of (item_symbols items.LowerBound)) (gift_of items.LowerBound) stack.old ≡ Some (gift, stack.new)) }
-    ensures misshapen { IfErr result (λ fault. fault ≡ Fault.Misshapen → taken (sorts_of (item_symbols items.LowerBound)) (gift_of items.LowerBound) stack.old ≡ None) }
+    ensures ok { IfOk result (λ gift. item_taken items.LowerBound stack.old ≡ Some (gift, stack.new)) }
+    ensures misshapen { IfErr result (λ fault. fault ≡ Fault.Misshapen → item_taken items.LowerBound stack.old ≡ None) }
 {
-    let MapUse { map, operands } = stack.map_use()?;
+    let bound = stack.map_use()?;
+    let MapUse { map, operands } = bound;
     let size = operands.len();
     Ok(Gift {
         operands,
@@ -213,12 +256,13 @@ fn lower_bound(stack: &mut Stack) -> Result<Gift, Fault>
     })
 }
 
-#[tactic(auto, using(av_values::proofs::Taking::taking))]
+#[tactic(auto, using(crate::proofs::Items::taking), unfolding(crate::specs::Taking::item_taken))]
 fn upper_bound(stack: &mut Stack) -> Result<Gift, Fault>
-    ensures ok { IfOk result (λ gift. taken (sorts_of (item_symbols items.UpperBound)) (gift_of items.UpperBound) stack.old ≡ Some (gift, stack.new)) }
-    ensures misshapen { IfErr result (λ fault. fault ≡ Fault.Misshapen → taken (sorts_of (item_symbols items.UpperBound)) (gift_of items.UpperBound) stack.old ≡ None) }
+    ensures ok { IfOk result (λ gift. item_taken items.UpperBound stack.old ≡ Some (gift, stack.new)) }
+    ensures misshapen { IfErr result (λ fault. fault ≡ Fault.Misshapen → item_taken items.UpperBound stack.old ≡ None) }
 {
-    let MapUse { map, operands } = stack.map_use()?;
+    let bound = stack.map_use()?;
+    let MapUse { map, operands } = bound;
     let size = operands.len();
     Ok(Gift {
         operands,
@@ -226,102 +270,62 @@ fn upper_bound(stack: &mut Stack) -> Result<Gift, Fault>
     })
 }
 
-#[tactic(auto, using(av_values::proofs::Taking::taking))]
+#[tactic(auto, using(crate::proofs::Items::taking), unfolding(crate::specs::Taking::item_taken))]
 fn step(stack: &mut Stack) -> Result<Gift, Fault>
-    ensures ok { IfOk result (λ gift. taken (sorts_of (item_symbols items.Step)) (gift_of items.Step) stack.old ≡ Some (gift, stack.new)) }
-    ensures misshapen { IfErr result (λ fault. fault ≡ Fault.Misshapen → taken (sorts_of (item_symbols items.Step)) (gift_of items.Step) stack.old ≡ None) }
+    ensures ok { IfOk result (λ gift. item_taken items.Step stack.old ≡ Some (gift, stack.new)) }
+    ensures misshapen { IfErr result (λ fault. fault ≡ Fault.Misshapen → item_taken items.Step stack.old ≡ None) }
 {
     let alloc = stack.alloc();
     let by = stack.number()?;
     let value = step_of(alloc, by)?;
-    property_alone(alloc, b"step", value)
+    let gift = property_alone(alloc, b"step", value)?;
+    Ok(gift)
 }
 
-#[tactic(auto, using(av_values::proofs::Taking::taking))]
+#[tactic(auto, using(crate::proofs::Items::taking), unfolding(crate::specs::Taking::item_taken))]
 fn carried(stack: &mut Stack) -> Result<Gift, Fault>
-    ensures ok { IfOk result (λ gift. taken (sorts_of (item_symbols items.Carried)) (gift_of items.Carried) stack.old ≡ Some (gift, stack.new)) }
-    ensures misshapen { IfErr result (λ fault. fault ≡ Fault.Misshapen → taken (sorts_of (item_symbols items.Carried)) (gift_of items.Carried) stack.old ≡ None) }
+    ensures ok { IfOk result (λ gift. item_taken items.Carried stack.old ≡ Some (gift, stack.new)) }
+    ensures misshapen { IfErr result (λ fault. fault ≡ Fault.Misshapen → item_taken items.Carried stack.old ≡ None) }
 {
     let alloc = stack.alloc();
     let carried = stack.carried()?;
-    carrying(alloc, carried)
+    let gift = carrying(alloc, carried)?;
+    Ok(gift)
 }
 
-#[tactic(auto, using(av_values::proofs::Taking::taking))]
+#[tactic(auto, using(crate::proofs::Items::taking), unfolding(crate::specs::Taking::item_taken))]
 fn result_types(stack: &mut Stack) -> Result<Gift, Fault>
-    ensures ok { IfOk result (λ gift. taken (sorts_of (item_symbols items.ResultTypes)) (gift_of items.ResultTypes) stack.old ≡ Some (gift, stack.new)) }
-    ensures misshapen { IfErr result (λ fault. fault ≡ Fault.Misshapen → taken (sorts_of (item_symbols items.ResultTypes)) (gift_of items.ResultTypes) stack.old ≡ None) }
+    ensures ok { IfOk result (λ gift. item_taken items.ResultTypes stack.old ≡ Some (gift, stack.new)) }
+    ensures misshapen { IfErr result (λ fault. fault ≡ Fault.Misshapen → item_taken items.ResultTypes stack.old ≡ None) }
 {
     let types = stack.types()?;
     Ok(change_alone(stack.alloc(), Change::Results(in_order(types))))
 }
 
-#[tactic(auto, using(av_values::proofs::Taking::taking))]
+#[tactic(auto, using(crate::proofs::Items::taking), unfolding(crate::specs::Taking::item_taken))]
 fn region(stack: &mut Stack) -> Result<Gift, Fault>
-    ensures ok { IfOk result (λ gift. taken (sorts_of (item_symbols items.Region)) (gift_of items.Region) stack.old ≡ Some (gift, stack.new)) }
-    ensures misshapen { IfErr result (λ fault. fault ≡ Fault.Misshapen → taken (sorts_of (item_symbols items.Region)) (gift_of items.Region) stack.old ≡ None) }
+    ensures ok { IfOk result (λ gift. item_taken items.Region stack.old ≡ Some (gift, stack.new)) }
+    ensures misshapen { IfErr result (λ fault. fault ≡ Fault.Misshapen → item_taken items.Region stack.old ≡ None) }
 {
     let nodes = stack.nodes()?;
     Ok(change_alone(stack.alloc(), Change::Region(in_order(nodes))))
 }
 
-#[tactic(auto, using(av_values::proofs::Taking::taking))]
+#[tactic(auto, using(crate::proofs::Items::taking), unfolding(crate::specs::Taking::item_taken))]
 fn otherwise(stack: &mut Stack) -> Result<Gift, Fault>
-    ensures ok { IfOk result (λ gift. taken (sorts_of (item_symbols items.Else)) (gift_of items.Else) stack.old ≡ Some (gift, stack.new)) }
-    ensures misshapen { IfErr result (λ fault. fault ≡ Fault.Misshapen → taken (sorts_of (item_symbols items.Else)) (gift_of items.Else) stack.old ≡ None) }
+    ensures ok { IfOk result (λ gift. item_taken items.Else stack.old ≡ Some (gift, stack.new)) }
+    ensures misshapen { IfErr result (λ fault. fault ≡ Fault.Misshapen → item_taken items.Else stack.old ≡ None) }
 {
     let nodes = stack.nodes()?;
     Ok(change_alone(stack.alloc(), Change::Region(in_order(nodes))))
 }
 
-#[tactic(auto, using(av_values::proofs::Taking::taking))]
+#[tactic(auto, using(crate::proofs::Items::taking), unfolding(crate::specs::Taking::item_taken))]
 fn by_hand(stack: &mut Stack) -> Result<Gift, Fault>
-    ensures ok { IfOk result (λ gift. taken (sorts_of (item_symbols items.ByHand)) (gift_of items.ByHand) stack.old ≡ Some (gift, stack.new)) }
-    ensures misshapen { IfErr result (λ fault. fault ≡ Fault.Misshapen → taken (sorts_of (item_symbols items.ByHand)) (gift_of items.ByHand) stack.old ≡ None) }
+    ensures ok { IfOk result (λ gift. item_taken items.ByHand stack.old ≡ Some (gift, stack.new)) }
+    ensures misshapen { IfErr result (λ fault. fault ≡ Fault.Misshapen → item_taken items.ByHand stack.old ≡ None) }
 {
     Ok(operands_alone(Seq::new(stack.alloc())))
-}
-
-#[tactic(auto, using(av_values::proofs::Taking::taking))]
-fn word(stack: &mut Stack, key: Key) -> Result<Gift, Fault>
-    ensures ok { IfOk result (λ gift. taken (sorts_of (word_symbols key)) (word_gift key) stack.old ≡ Some (gift, stack.new)) }
-    ensures misshapen { IfErr result (λ fault. fault ≡ Fault.Misshapen → taken (sorts_of (word_symbols key)) (word_gift key) stack.old ≡ None) }
-{
-    let alloc = stack.alloc();
-    match key {
-        Key::Predicate => {
-            let word = stack.text()?;
-            let value = predicate(alloc, &word)?;
-            property_alone(alloc, b"predicate", value)
-        }
-        Key::Kind => {
-            let word = stack.text()?;
-            let value = kind(alloc, word)?;
-            property_alone(alloc, b"kind", value)
-        }
-        Key::StaticPosition | Key::Mask => Ok(operands_alone(Seq::new(alloc))),
-    }
-}
-
-#[tactic(auto, using(av_values::proofs::Taking::taking))]
-fn angled(stack: &mut Stack, key: Key) -> Result<Gift, Fault>
-    ensures ok { IfOk result (λ gift. taken (sorts_of (angled_symbols key)) (angled_gift key) stack.old ≡ Some (gift, stack.new)) }
-    ensures misshapen { IfErr result (λ fault. fault ≡ Fault.Misshapen → taken (sorts_of (angled_symbols key)) (angled_gift key) stack.old ≡ None) }
-{
-    let alloc = stack.alloc();
-    match key {
-        Key::Predicate => {
-            let word = stack.text()?;
-            let value = predicate(alloc, &word)?;
-            property_alone(alloc, b"predicate", value)
-        }
-        Key::Kind => {
-            let word = stack.text()?;
-            let value = kind(alloc, word)?;
-            property_alone(alloc, b"kind", value)
-        }
-        Key::StaticPosition | Key::Mask => Ok(operands_alone(Seq::new(alloc))),
-    }
 }
 
 fn operands_alone(operands: Seq<Text>) -> Gift

@@ -1,15 +1,14 @@
 //! The row of an operation: what each item of its form gives is taken off the stack, from the first item to
 //! the last, and given to the operation from the last to the first.
 
-ghost use Rattle.std.specs.Prelude.{◌≡◌, [], Some, None, IfErr, IfOk, OnOk};
-ghost use Rattle.av_tree.specs.Forms.{form_symbols};
+ghost use Rattle.std.specs.Prelude.{◌≡◌, ◌≤◌, [], drop, length, option_map, slice_get, Some, None, IfErr, IfOk, OnOk};
 ghost use Rattle.av_tree.specs.declared.node.Node.{roll-Node};
-ghost use Rattle.av_values.specs.Made.{blank as the_blank, by_row, made_of, taken, unwritten_results as the_unwritten_results};
-ghost use Rattle.av_values.specs.Sorts.{sorts_of};
+ghost use Rattle.av_values.specs.Made.{blank as the_blank, by_row, unwritten_results as the_unwritten_results};
+ghost use Rattle.av_operations.specs.Taking.{parts_taken};
 
 use super::gifts::take_gift;
 use av_affine::Seq;
-use av_dialects::{Part, Results, form_of, name_at, results_at};
+use av_dialects::{Item, Part, Results, form_of, name_at, results_at};
 use av_tree::{Node, TypeText};
 use av_values::gifts::give;
 use av_values::nodes::unwritten;
@@ -35,20 +34,37 @@ fn made_of(
     parts: &[Part],
     mut types: Seq<Option<TypeText>>,
 ) -> Result<Node, Fault>
-    ensures ok { IfOk result (λ node. taken (sorts_of (form_symbols parts.now)) (λ vs. roll-Node (made_of number place parts.now types vs)) stack.old ≡ Some (node, stack.new)) }
-    ensures misshapen { IfErr result (λ fault. fault ≡ Fault.Misshapen → taken (sorts_of (form_symbols parts.now)) (λ vs. roll-Node (made_of number place parts.now types vs)) stack.old ≡ None) }
+    ensures ok { IfOk result (λ node. parts_taken number place parts.now types stack.old ≡ Some (node, stack.new)) }
+    ensures misshapen { IfErr result (λ fault. fault ≡ Fault.Misshapen → parts_taken number place parts.now types stack.old ≡ None) }
 {
     let alloc = stack.alloc();
     match parts {
-        [part, rest @ ..] => {
-            let gift = take_gift(stack, part.1)?;
+        [_, ..] => {
+            let gift = take_gift(stack, first_item(parts))?;
             types.append(unwritten(alloc, gift.operands.as_slice())?)?;
-            let mut node = made_of(stack, number, place, rest, types)?;
+            let mut node = made_of(stack, number, place, behind(parts), types)?;
             give(alloc, &mut node, gift)?;
             Ok(node)
         }
-        [] => blank(alloc, number, place, types),
+        [] => {
+            let node = blank(alloc, number, place, types)?;
+            Ok(node)
+        }
     }
+}
+
+fn first_item(parts: &[Part]) -> Item
+    requires { 1 ≤ length parts.now }
+    ensures { option_map (λ part. part.1) (slice_get parts.now 0) ≡ Some result }
+{
+    parts[0].1
+}
+
+fn behind(parts: &[Part]) -> &[Part]
+    requires { 1 ≤ length parts.now }
+    ensures { result.now ≡ drop 1 parts.now }
+{
+    &parts[1..]
 }
 
 fn blank(alloc: Global, number: u8, place: u32, types: Seq<Option<TypeText>>) -> Result<Node, Fault>
