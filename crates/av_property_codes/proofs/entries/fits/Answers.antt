@@ -1,0 +1,18 @@
+use Rattle.std.proofs.Common.{◌∙◌, ◌&&◌, ap, sym}
+use Rattle.std.specs.Option.{option_map_or}
+use Rattle.std.specs.Str.{bytes_eq}
+use Rattle.av_rules.specs.Entries.{has_form, is_mark_value, mark_name}
+use Rattle.av_property_codes.proofs.Fits.{fits-is, form_found}
+use Rattle.av_property_codes.proofs.entries.fits.Goals as goal
+
+pub returns-in-Some : goal.returns-in-Some
+returns-in-Some c =
+    c.has_form.ensures
+    ∙ fits-is c.args.aliases.now c.args.row.now c.args.entry.now _
+    (sym c.in-Some.is ∙ c.form_named.ensures ∙ ap (form_found c.args.row.now.properties.now) c.as_slice.ensures)
+
+pub returns-in-None : goal.returns-in-None
+returns-in-None c =
+    c.is_mark.ensures
+    ∙ fits-is c.args.aliases.now c.args.row.now c.args.entry.now _
+    (sym c.in-None.is ∙ c.form_named.ensures ∙ ap (form_found c.args.row.now.properties.now) c.as_slice.ensures)
