@@ -1,7 +1,8 @@
 -- What lists of elements list, and the constant that they are.
 use Rattle.std.proofs.Common.{◌≡◌, ◌∙◌, ℕ, ◌+◌, Bool, true, false, ◌&&◌, cond, List, [], ◌∷◌, ◌++◌, map, flat_map, take, get_or, length, eqb, refl, ap, sym, arith}
-use Rattle.std.specs.Prelude.{ℤ, pos, ◌==◌, if◌then◌else◌}
+use Rattle.std.specs.Prelude.{ℤ, pos, ◌==◌, if◌then◌else◌, slice_get, Some}
 use Rattle.std.specs.List.{list_all}
+use Rattle.std.specs.Option.{option_map_or}
 use Rattle.std.proofs.lemmas.Bool.Decides.{nat_tests}
 use Rattle.std.proofs.lemmas.List.{map-append}
 use Rattle.av_bits.specs.declared.types.Width.{Width}
@@ -67,6 +68,16 @@ const-is elem (l ∷ ls) =
     ap (λ same. if same then Splat (pattern_in elem l) else Each (map (pattern_in elem) (l ∷ ls)))
     (itself (pattern_in elem l) (list_all (λ one. pattern_in elem l == one) (map (pattern_in elem) ls))
     ∙ all-mapped (λ one. pattern_in elem l == one) (pattern_in elem) ls)
+
+pub all-equal : (ps : List ℕ) (p : ℕ) → Some p ≡ slice_get ps 0 → list_all (λ one. p == one) ps ≡ true → Splat p ≡ const_from ps
+all-equal ps p first same =
+    sym (ap (λ o. option_map_or (λ q. if list_all (λ one. q == one) ps then Splat q else Each ps) o (Splat 0)) (sym first)
+    ∙ ap (λ b. if b then Splat p else Each ps) same)
+
+pub some-differ : (ps : List ℕ) (p : ℕ) → Some p ≡ slice_get ps 0 → list_all (λ one. p == one) ps ≡ false → Each ps ≡ const_from ps
+some-differ ps p first same =
+    sym (ap (λ o. option_map_or (λ q. if list_all (λ one. q == one) ps then Splat q else Each ps) o (Splat 0)) (sym first)
+    ∙ ap (λ b. if b then Splat p else Each ps) same)
 
 pub patterns-more : (width : Width) (before after : List Leaf) → patterns width (before ++ after) ≡ patterns width before ++ patterns width after
 patterns-more width before after = map-append (λ (l : Leaf). pattern_of (bits_of width) l.number) before after

@@ -1,7 +1,8 @@
 -- Names as the rules see them, and as operations of a module are made from them.
-use Rattle.std.proofs.Common.{◌≡◌, ◌∙◌, ℕ, Bool, true, false, cond, List, [], ◌∷◌, map, Option, Some, None, Bor, refl, ap, sym}
-use Rattle.std.specs.Prelude.{is_some}
-use Rattle.std.specs.List.{find}
+use Rattle.std.proofs.Common.{◌≡◌, ◌∙◌, ℕ, suc, ◌+◌, Bool, true, false, cond, List, [], ◌∷◌, map, Option, Some, None, Bor, refl, ap, sym, arith}
+use Rattle.std.specs.Prelude.{is_some, position}
+use Rattle.std.specs.List.{find, position_from}
+use Rattle.std.proofs.lemmas.Iterator.Adapters.{position_from-zero}
 use Rattle.std.specs.Option.{option_copied, option_and_then, option_map, option_map_or}
 use Rattle.std.specs.Str.{bytes_eq}
 use Rattle.av_ir.specs.declared.module.ValueId.{ValueId}
@@ -13,6 +14,7 @@ use Rattle.av_rules.specs.Scopes.{is_visible, role_named, type_named}
 use Rattle.av_elaboration.specs.Kinds.{value_named}
 use Rattle.av_elaboration.specs.declared.tag.Tag.{Tag}
 use Rattle.av_elaboration.specs.declared.tag.Tag.TheVariants.{Module}
+use Rattle.av_dialects.specs.Rows.{place_in}
 use Rattle.av_building.specs.TagsFound.{tag_found, tagged_by}
 use Rattle.av_elaboration.specs.Tags.{Tagged}
 use Rattle.av_building.specs.declared.names.Meaning.{Meaning}
@@ -74,3 +76,23 @@ among {X} f g rows name =
     by : (o : Option X) → option_map_or (λ t. t) (option_map g o) Module ≡ option_map_or (λ (t : Tagged). t.tag) (option_map (λ row. tagged_by (f row) (g row)) o) Module
     by None = refl
     by (Some row) = refl
+
+-- ---- places of words
+from-place : {X : Type 0} (f : X → List ℕ) (n : ℕ) (words : List X) (word : List ℕ)
+    → position_from (λ one. bytes_eq (f one) word) n words ≡ option_map (λ k. n + k) (place_in (map f words) word)
+from-place f n [] word = refl
+from-place f n (one ∷ words) word = by (bytes_eq (f one) word) (place_in (map f words) word) (from-place f (n + 1) words word)
+  where
+    by : (same : Bool) (rest : Option ℕ) → position_from (λ x. bytes_eq (f x) word) (n + 1) words ≡ option_map (λ k. (n + 1) + k) rest
+        → cond same (Some n) (position_from (λ x. bytes_eq (f x) word) (n + 1) words) ≡ option_map (λ k. n + k) (cond same (Some 0) (option_map suc rest))
+    by true rest h = ap Some (omega arith)
+    by false None h = h
+    by false (Some k) h = h ∙ ap Some (omega arith)
+
+from-zero : (place : Option ℕ) → option_map (λ k. 0 + k) place ≡ place
+from-zero None = refl
+from-zero (Some k) = ap Some (omega arith)
+
+pub placed : {X : Type 0} (f : X → List ℕ) (words : List X) (word : List ℕ) → position (λ one. bytes_eq (f one) word) words ≡ place_in (map f words) word
+placed f words word =
+    position_from-zero (λ one. bytes_eq (f one) word) words ∙ from-place f 0 words word ∙ from-zero (place_in (map f words) word)

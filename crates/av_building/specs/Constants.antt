@@ -1,5 +1,5 @@
 -- A constant from the patterns of all that it lists.
-use Rattle.std.specs.Prelude.{ℕ, ◌==◌, if◌then◌else◌, List, [], ◌∷◌, map, Option}
+use Rattle.std.specs.Prelude.{ℕ, ◌==◌, if◌then◌else◌, List, map, slice_get, Option}
 use Rattle.std.specs.List.{list_all}
 use Rattle.std.specs.Option.{option_map_or}
 use Rattle.av_bits.specs.declared.types.Width.{Width}
@@ -21,5 +21,4 @@ patterns width leaves = map (λ (l : Leaf). pattern_of (bits_of width) l.number)
 
 -- one pattern, where all are equal; else each of them
 abbrev pub const_from : List ℕ → Const
-const_from [] = Splat 0
-const_from (p ∷ ps) = if list_all (λ one. p == one) (p ∷ ps) then Splat p else Each (p ∷ ps)
+const_from ps = option_map_or (λ p. if list_all (λ one. p == one) ps then Splat p else Each ps) (slice_get ps 0) (Splat 0)

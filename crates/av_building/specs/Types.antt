@@ -13,6 +13,9 @@ abbrev pub is_extent : Extent → Bool
 is_extent (extent.Fixed n) = nat_lt n (2 ^ 64)
 is_extent extent.Dyn = true
 
+abbrev pub taken_extent : Extent → Option Extent
+taken_extent size = if is_extent size then Some size else None
+
 abbrev pub taken_extents : List Extent → Option (List Extent)
 taken_extents sizes = if list_all is_extent sizes then Some sizes else None
 
@@ -20,8 +23,15 @@ taken_extents sizes = if list_all is_extent sizes then Some sizes else None
 abbrev pub are_sizes : List ℕ → Bool
 are_sizes sizes = nat_le 1 (length sizes) && nat_le (length sizes) 3 && nat_le 1 (product sizes) && nat_le (product sizes) 256
 
+-- at most 256
+abbrev pub is_size : ℕ → Bool
+is_size n = nat_le n 256
+
+abbrev pub taken_size : ℕ → Option ℕ
+taken_size n = if is_size n then Some n else None
+
 abbrev pub taken_sizes : List ℕ → Option (List ℕ)
-taken_sizes sizes = if list_all (λ n. nat_le n 256) sizes then Some sizes else None
+taken_sizes sizes = if list_all is_size sizes then Some sizes else None
 
 abbrev pub is_taken : Ty → Bool
 is_taken (ty.Scalar elem) = true

@@ -72,6 +72,7 @@ fn are_all(listed: &[u64], pattern: u64) -> bool
 }
 
 // The patterns of all that a value lists.
+#[tactic(auto, using(crate::proofs::Nests::nests))]
 fn leaves(alloc: Global, width: Width, value: &Attr) -> Result<Seq<u64>, AllocError>
     ensures { IfOk result (λ listed. listed ≡ patterns width (leaves_of value.now)) }
 {

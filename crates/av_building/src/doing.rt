@@ -1,12 +1,14 @@
 //! What an operation does, and which values it uses.
 
-ghost use Rattle.std.specs.Prelude.{◌≡◌, ◌++◌, IfOk, codes, take, true};
+ghost use Rattle.std.specs.Prelude.{◌≡◌, ◌++◌, IfOk, codes, false, take, true};
 ghost use Rattle.av_elaboration.specs.Kinds.{does, done_by, use_at};
-ghost use Rattle.av_building.specs.Doing.{are_held, is_plain, loop_uses};
+ghost use Rattle.av_elaboration.specs.declared.tag.Tag.TheVariants.{AffineFor};
+ghost use Rattle.av_signatures.specs.declared.signature.Uses.TheVariants.{From, Segment as Part};
+ghost use Rattle.av_building.specs.Doing.{applies_map, are_held, is_plain};
 ghost use Rattle.av_building.specs.Scopes.{bindings_of};
 
 use super::constants::constant;
-use super::entries::{kind, numbers, predicate, step};
+use super::entries::{kind, picked, position_of, predicate, step};
 use super::maps::{carried_names, set_at, use_at};
 use super::names::Names;
 use super::values::values_named;
@@ -128,15 +130,25 @@ fn looped(
     let lower = bound(alloc, names, aliases, node, b"lowerBoundMap".as_slice(), Segment::Lower)?;
     let upper = bound(alloc, names, aliases, node, b"upperBoundMap".as_slice(), Segment::Upper)?;
     let carried = values_named(alloc, names, carried_names(node))?;
-    let mut operands = lower.operands;
-    operands.append(upper.operands)?;
-    operands.append(carried)?;
+    let operands = joined(lower.operands, upper.operands, carried)?;
     let kind = OpKind::AffineFor {
         lower: lower.map,
         upper: upper.map,
         step: step(node),
     };
     Ok(Does { kind, operands })
+}
+
+fn joined(
+    mut first: Seq<ValueId>,
+    second: Seq<ValueId>,
+    third: Seq<ValueId>,
+) -> Result<Seq<ValueId>, AllocError>
+    ensures { IfOk result (λ all. all ≡ first ++ second ++ third) }
+{
+    first.append(second)?;
+    first.append(third)?;
+    Ok(first)
 }
 
 fn bound(
@@ -147,7 +159,7 @@ fn bound(
     label: &[u8],
     part: Segment,
 ) -> Result<MapUse, AllocError>
-    ensures { (site : _) → IfOk result (λ u. u ≡ use_at (bindings_of names.now) (record site { node = node.now; aliases = aliases.now }) label.now (uses.Segment part)) }
+    ensures { (site : _) → IfOk result (λ u. u ≡ use_at (bindings_of names.now) (record site { node = node.now; aliases = aliases.now }) label.now (Part part)) }
 {
     use_at(alloc, names, aliases, node, label, Uses::Segment(part))
 }
@@ -169,18 +181,9 @@ fn kind_of(
         Tag::Compare => Ok(OpKind::ArithCmpi(predicate(node))),
         Tag::AffineIf => Ok(OpKind::AffineIf(set_at(alloc, aliases, node)?)),
         Tag::VectorReduction => Ok(OpKind::VectorReduction(kind(node))),
-        Tag::VectorExtract => {
-            let position = numbers(alloc, node, b"static_position".as_slice())?;
-            Ok(OpKind::VectorExtract(position))
-        }
-        Tag::VectorInsert => {
-            let position = numbers(alloc, node, b"static_position".as_slice())?;
-            Ok(OpKind::VectorInsert(position))
-        }
-        Tag::VectorShuffle => {
-            let picked = numbers(alloc, node, b"mask".as_slice())?;
-            Ok(OpKind::VectorShuffle(picked))
-        }
+        Tag::VectorExtract => Ok(OpKind::VectorExtract(position_of(alloc, node)?)),
+        Tag::VectorInsert => Ok(OpKind::VectorInsert(position_of(alloc, node)?)),
+        Tag::VectorShuffle => Ok(OpKind::VectorShuffle(picked(alloc, node)?)),
         _ => Ok(plain_kind(tag)),
     }
 }

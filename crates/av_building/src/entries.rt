@@ -1,11 +1,12 @@
 //! What properties and marks say. Where one lacks or has another form, anything stands in its place.
 
-ghost use Rattle.std.specs.Prelude.{◌≡◌, [], true, IfOk, get_or, length, map, unsigned_abs, unwrap_or};
+ghost use Rattle.std.specs.Prelude.{◌≡◌, [], true, IfOk, codes, get_or, map, position, unsigned_abs, unwrap_or};
 ghost use Rattle.std.specs.List.{list_all};
 ghost use Rattle.std.specs.Option.{option_copied, option_map_or};
+ghost use Rattle.std.specs.Str.{bytes_eq};
 ghost use Rattle.av_bits.specs.declared.types.Kind9.TheVariants.{Add};
 ghost use Rattle.av_bits.specs.declared.types.Pred.TheVariants.{Eq};
-ghost use Rattle.av_dialects.specs.Rows.{kinds, place_in, predicates};
+ghost use Rattle.av_dialects.specs.Rows.{kinds, place_in};
 ghost use Rattle.av_elaboration.specs.declared.tags.TheConstants.{KINDS, PREDICATES};
 ghost use Rattle.av_elaboration.specs.Fields.{kind_among, kind_at, kind_of, mark_number, marks_from, numbers_at, predicate_at, predicate_of, step_at};
 ghost use Rattle.av_rules.specs.Entries.{entry_of, mark_name, natural, numbers_of};
@@ -17,7 +18,7 @@ use av_bits::{Kind9, Pred};
 use av_elaboration::{KINDS, PREDICATES};
 use av_ir::Marks;
 use av_signatures::{Mark, Signature};
-use av_sites::{entry, mark_name, number_in, numbers_in};
+use av_sites::{entry, mark_name, natural, number_in, numbers_in};
 use av_tree::{Attr, Node};
 use std::alloc::{AllocError, Global};
 
@@ -42,10 +43,19 @@ fn predicate_of(value: &Attr) -> Pred
 
 // The predicate of a number; the first, where there is none.
 fn predicate_numbered(number: i128) -> Pred
-    ensures { result ≡ option_map_or (λ n. get_or PREDICATES.now n Eq) (natural (length predicates) number) Eq }
+    ensures { result ≡ option_map_or (λ n. get_or PREDICATES.now n Eq) (natural 10 number) Eq }
 {
-    if 0 <= number && number < PREDICATES.len() as i128 {
-        PREDICATES[number as usize]
+    match natural(10, number) {
+        Some(at) => predicate_at(at),
+        None => Pred::Eq,
+    }
+}
+
+fn predicate_at(at: u128) -> Pred
+    ensures { result ≡ get_or PREDICATES.now at Eq }
+{
+    if at < PREDICATES.len() as u128 {
+        PREDICATES[at as usize]
     } else {
         Pred::Eq
     }
@@ -83,10 +93,23 @@ fn kind_among(words: &[Text]) -> Kind9
 fn kind_named(word: &[u8]) -> Kind9
     ensures { result ≡ option_map_or (λ k. get_or KINDS.now k Add) (place_in kinds word.now) Add }
 {
-    match av_dialects::KINDS.iter().position(|one| one.as_bytes() == word) {
+    match place_among(av_dialects::KINDS, word) {
         Some(at) => kind_numbered(at),
         None => Kind9::Add,
     }
+}
+
+// The first place of a word.
+fn place_among(words: &[&str], word: &[u8]) -> Option<usize>
+    ensures { result ≡ place_in (map (λ one. one.now) words.now) word.now }
+{
+    place_of(words, word)
+}
+
+fn place_of(words: &[&str], word: &[u8]) -> Option<usize>
+    ensures { result ≡ position (λ one. bytes_eq one.now word.now) words.now }
+{
+    words.iter().position(|one| one.as_bytes() == word)
 }
 
 fn kind_numbered(at: usize) -> Kind9
@@ -98,12 +121,8 @@ fn kind_numbered(at: usize) -> Kind9
     }
 }
 
-/// The numbers of a property.
-///
-/// # Errors
-///
-/// Want of memory.
-pub fn numbers(alloc: Global, node: &Node, label: &[u8]) -> Result<Seq<u16>, AllocError>
+// The numbers of a property.
+fn numbers(alloc: Global, node: &Node, label: &[u8]) -> Result<Seq<u16>, AllocError>
     ensures {
         (site : _) → list_all is_short (unwrap_or (numbers_of label.now node.now) []) ≡ true
         → IfOk result (λ numbers. numbers ≡ numbers_at label.now (record site { node = node.now }))
@@ -113,6 +132,34 @@ pub fn numbers(alloc: Global, node: &Node, label: &[u8]) -> Result<Seq<u16>, All
         Some(written) => short_numbers(alloc, written),
         None => Ok(Seq::new(alloc)),
     }
+}
+
+/// The position in a vector that an operation says.
+///
+/// # Errors
+///
+/// Want of memory.
+pub fn position_of(alloc: Global, node: &Node) -> Result<Seq<u16>, AllocError>
+    ensures {
+        (site : _) → list_all is_short (unwrap_or (numbers_of (codes "static_position") node.now) []) ≡ true
+        → IfOk result (λ numbers. numbers ≡ numbers_at (codes "static_position") (record site { node = node.now }))
+    }
+{
+    numbers(alloc, node, b"static_position".as_slice())
+}
+
+/// The places that an operation picks.
+///
+/// # Errors
+///
+/// Want of memory.
+pub fn picked(alloc: Global, node: &Node) -> Result<Seq<u16>, AllocError>
+    ensures {
+        (site : _) → list_all is_short (unwrap_or (numbers_of (codes "mask") node.now) []) ≡ true
+        → IfOk result (λ numbers. numbers ≡ numbers_at (codes "mask") (record site { node = node.now }))
+    }
+{
+    numbers(alloc, node, b"mask".as_slice())
 }
 
 fn short_numbers(alloc: Global, written: &[i128]) -> Result<Seq<u16>, AllocError>

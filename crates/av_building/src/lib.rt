@@ -13,8 +13,8 @@ mod values;
 
 pub use constants::constant;
 pub use doing::{Does, done};
-pub use entries::{kind, marks, numbers, predicate, step};
+pub use entries::{kind, marks, picked, position_of, predicate, step};
 pub use names::{Meaning, Names};
 pub use tags::tag_named;
-pub use types::{result_tys, ty_of};
-pub use values::{roles_named, types_named, values_named};
+pub use types::{argument_tys, result_tys, ty_of};
+pub use values::{is_visible, roles_named, types_named, values_named};

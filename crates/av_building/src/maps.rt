@@ -1,10 +1,10 @@
 //! The maps and sets of an operation, with the values that they are applied to.
 
-ghost use Rattle.std.specs.Prelude.{◌≡◌, IfOk, [], drop, take};
-ghost use Rattle.std.specs.Option.{option_copied};
+ghost use Rattle.std.specs.Prelude.{◌≡◌, IfOk, []};
 ghost use Rattle.av_elaboration.specs.Fields.{map_at, set_at};
-ghost use Rattle.av_elaboration.specs.Kinds.{use_at, values_named};
+ghost use Rattle.av_elaboration.specs.Kinds.{carried_names, use_at};
 ghost use Rattle.av_rules.specs.Properties.{parts, used_by};
+ghost use Rattle.av_signatures.specs.declared.signature.Uses.TheVariants.{Segment as Part};
 ghost use Rattle.av_building.specs.Scopes.{bindings_of};
 ghost use Rattle.av_sites.specs.Parts.{segments_read};
 
@@ -13,7 +13,7 @@ use super::values::values_named;
 use av_affine::{AffMap, AffSet, Seq, Text};
 use av_maps::{MapUse, map_in, map_of, normal_use, set_in, set_of};
 use av_signatures::{Segment, Uses};
-use av_sites::{Segments, entry, operands, segments_of};
+use av_sites::{Segments, entry, first_of, operands, rest_of, segments_of};
 use av_tree::{Alias, Node};
 use std::alloc::{AllocError, Global};
 
@@ -36,12 +36,18 @@ pub fn used_by(node: &Node, uses: Uses) -> &[Text]
     ensures { (site : _) → result.now ≡ used_by (record site { node = node.now }) uses }
 {
     match uses {
-        Uses::From(at) => from(operands(node), at as u128),
-        Uses::Segment(Segment::Lower) => up_to(operands(node), parts(node).lower),
-        Uses::Segment(Segment::Upper) => {
-            let parts = parts(node);
-            up_to(from(operands(node), parts.lower), parts.upper)
-        }
+        Uses::From(at) => rest_of(operands(node), at as u128),
+        Uses::Segment(part) => used_in(node, part),
+    }
+}
+
+fn used_in(node: &Node, part: Segment) -> &[Text]
+    ensures { (site : _) → result.now ≡ used_by (record site { node = node.now }) (Part part) }
+{
+    let parts = parts(node);
+    match part {
+        Segment::Lower => first_of(operands(node), parts.lower),
+        Segment::Upper => first_of(rest_of(operands(node), parts.lower), parts.upper),
     }
 }
 
@@ -50,27 +56,7 @@ pub fn carried_names(node: &Node) -> &[Text]
     ensures { (site : _) → result.now ≡ carried_names (record site { node = node.now }) }
 {
     let parts = parts(node);
-    from(from(operands(node), parts.lower), parts.upper)
-}
-
-fn from(names: &[Text], at: u128) -> &[Text]
-    ensures { result.now ≡ drop at names.now }
-{
-    if at < names.len() as u128 {
-        &names[at as usize..]
-    } else {
-        &names[names.len()..]
-    }
-}
-
-fn up_to(names: &[Text], end: u128) -> &[Text]
-    ensures { result.now ≡ take end names.now }
-{
-    if end < names.len() as u128 {
-        &names[..end as usize]
-    } else {
-        names
-    }
+    rest_of(rest_of(operands(node), parts.lower), parts.upper)
 }
 
 /// The map of a property; one without results, where there is none.

@@ -1,10 +1,10 @@
 //! Types as values of a module have them.
 
-ghost use Rattle.std.specs.Prelude.{◌≡◌, ◌≤◌, [], All, IfOk, map, None, Some, unwrap_or};
+ghost use Rattle.std.specs.Prelude.{◌≡◌, [], IfOk, length, map, option_map, slice_get, unwrap_or};
 ghost use Rattle.std.specs.Option.{option_and_then};
-ghost use Rattle.av_building.specs.Types.{taken, taken_extents, taken_sizes};
+ghost use Rattle.av_building.specs.Types.{taken, taken_extent, taken_extents, taken_size, taken_sizes};
 ghost use Rattle.av_ir.specs.declared.ty.Ty.TheVariants.{MemRef, Vector};
-ghost use Rattle.av_rules.specs.Typing.{spelled};
+ghost use Rattle.av_rules.specs.Typing.{spelled, type_in};
 ghost use Rattle.av_sites.specs.TypeViews.{extents_seen, results_seen, sizes_seen, type_seen};
 
 use av_affine::Seq;
@@ -54,18 +54,22 @@ fn extents(alloc: Global, sizes: ExtentsView) -> Result<Option<Seq<Extent>>, All
 {
     let mut extents = Seq::new(alloc);
     for at in 0..extent_count(sizes) {
-        match extent_at(sizes, at) {
-            Some(SizeText::Fixed(size)) => {
-                if size >= 0x1_0000_0000_0000_0000 {
-                    return Ok(None);
-                }
-                extents.push(Extent::Fixed(size as u64))?;
-            }
-            Some(SizeText::Dynamic) => extents.push(Extent::Dyn)?,
+        match extent_in(sizes, at) {
+            Some(extent) => extents.push(extent)?,
             None => return Ok(None),
         }
     }
     Ok(Some(extents))
+}
+
+// The size at a place, if it is below 2^64.
+fn extent_in(sizes: ExtentsView, at: usize) -> Option<Extent>
+    ensures { result ≡ option_and_then taken_extent (slice_get (extents_seen sizes.entry) at) }
+{
+    match extent_at(sizes, at)? {
+        SizeText::Fixed(size) => if size < 0x1_0000_0000_0000_0000 { Some(Extent::Fixed(size as u64)) } else { None },
+        SizeText::Dynamic => Some(Extent::Dyn),
+    }
 }
 
 fn vector(
@@ -95,17 +99,20 @@ fn small_sizes(alloc: Global, sizes: SizesView) -> Result<Option<Seq<u16>>, Allo
 {
     let mut small = Seq::new(alloc);
     for at in 0..size_count(sizes) {
-        match size_at(sizes, at) {
-            Some(size) => {
-                if size > MAX_SIZE {
-                    return Ok(None);
-                }
-                small.push(size as u16)?;
-            }
+        match size_in(sizes, at) {
+            Some(size) => small.push(size)?,
             None => return Ok(None),
         }
     }
     Ok(Some(small))
+}
+
+// The size at a place, if it is at most 256.
+fn size_in(sizes: SizesView, at: usize) -> Option<u16>
+    ensures { result ≡ option_and_then taken_size (slice_get (sizes_seen sizes.entry) at) }
+{
+    let size = size_at(sizes, at)?;
+    if size <= MAX_SIZE { Some(size as u16) } else { None }
 }
 
 /// The types of an operation's results.
@@ -117,10 +124,25 @@ pub fn result_tys(alloc: Global, types: ResultTypes) -> Result<Seq<Option<Ty>>, 
     ensures { IfOk result (λ tys. tys ≡ map (option_and_then taken) (unwrap_or (results_seen types.entry) [])) }
 {
     let mut tys = Seq::new(alloc);
-    for at in 0..result_count(types).unwrap_or(0) {
-        tys.push(known_ty(alloc, result_at(types, at))?)?;
+    for at in 0..count_of(types) {
+        tys.push(ty_at(alloc, types, at)?)?;
     }
     Ok(tys)
+}
+
+fn count_of(types: ResultTypes) -> usize
+    ensures { result ≡ length (unwrap_or (results_seen types.entry) []) }
+{
+    match result_count(types) {
+        Some(count) => count,
+        None => 0,
+    }
+}
+
+fn ty_at(alloc: Global, types: ResultTypes, at: usize) -> Result<Option<Ty>, AllocError>
+    ensures { IfOk result (λ ty. ty ≡ option_and_then taken (type_in (unwrap_or (results_seen types.entry) []) at)) }
+{
+    known_ty(alloc, result_at(types, at))
 }
 
 fn known_ty(alloc: Global, view: Option<TypeView>) -> Result<Option<Ty>, AllocError>
