@@ -1,0 +1,21 @@
+use Rattle.std.proofs.Common.{◌∙◌, [], ap, sym}
+use Rattle.std.specs.Prelude.{unwrap_or}
+use Rattle.std.specs.List.{list_all}
+use Rattle.av_rules.specs.Agreement.{types_written}
+use Rattle.av_rules.specs.Limits.{unknown_row}
+use Rattle.av_rules.specs.Rows.{row_of}
+use Rattle.av_rules.specs.Views.{fields}
+use Rattle.av_place_codes.specs.Trees.{leaves_room, somewhere}
+use Rattle.av_place_codes.proofs.size.leaves_room_at.Goals as goal
+
+pub returns-in-Some : goal.returns-in-Some
+returns-in-Some c =
+    let e = c.in-Some.ensures in
+    c.every_written.ensures c.name.result.now (somewhere c.args.node.now)
+    ∙ ?
+
+pub returns-in-None : goal.returns-in-None
+returns-in-None c =
+    let e = c.in-None.ensures in
+    c.every_written-in-None.ensures [] (somewhere c.args.node.now)
+    ∙ ?
