@@ -1,4 +1,4 @@
--- The small trees with regions and what ends them are taken and refused as is said.
+-- The small trees with functions, choices and what ends their regions are taken and refused as is said.
 use Rattle.std.proofs.Common.{refl}
 use Rattle.av_affine.specs.Finding.{bound_found}
 use Rattle.av_affine.specs.Limits.{has_parameter, node_count}
@@ -13,7 +13,7 @@ use Rattle.av_dialects.specs.Rows.{kinds, predicates}
 use Rattle.av_signatures.specs.Rows.{dropped, dropped_of_functions}
 use Rattle.av_rules.specs.Agreement.{types_in, types_in_items, types_in_entries}
 use Rattle.av_rules.specs.Constants.{nest_of, nests_of}
-use Rattle.av_rules.specs.RegionExamples.{RegionExamples, Modules, FunctionProperties, FunctionBodies, Returns, LoopBounds, Carrying, LoopEnds, CountedLoops, Branching}
+use Rattle.av_rules.specs.RegionExamples.{RegionExamples, Modules, FunctionProperties, FunctionBodies, Returns, Branching, BranchEnds}
 use Rattle.av_rules.specs.Rows.{is_of_scalar_mode, rows}
 use Rattle.av_rules.specs.Sites.{operations_in, operations_in_bodies, operations_within, operations_in_nodes, sites_from}
 use Rattle.av_rules.specs.Views.{fields, bodies_in, inside, nodes_in, function_in, types_listed}
@@ -24,7 +24,7 @@ modules = (refl, refl, refl, refl, refl, refl, refl, refl, refl, refl, refl)
 
 function-properties : FunctionProperties
 unfolding rows is_of_scalar_mode dropped dropped_of_functions kinds predicates fields bodies_in inside nodes_in function_in types_listed operations_in operations_in_bodies operations_within operations_in_nodes sites_from types_in types_in_items types_in_entries nest_of nests_of has_own expr_of bound_found has_parameter node_count value_of parameters shape-the_row-ExprText-0 hidden-the_row-ExprText-0 shape-the_row-Expr-0 hidden-the_row-Expr-0 hidden
-function-properties = (refl, refl, refl, refl)
+function-properties = (refl, refl, refl, refl, refl, refl, refl)
 
 function-bodies : FunctionBodies
 unfolding rows is_of_scalar_mode dropped dropped_of_functions kinds predicates fields bodies_in inside nodes_in function_in types_listed operations_in operations_in_bodies operations_within operations_in_nodes sites_from types_in types_in_items types_in_entries nest_of nests_of has_own expr_of bound_found has_parameter node_count value_of parameters shape-the_row-ExprText-0 hidden-the_row-ExprText-0 shape-the_row-Expr-0 hidden-the_row-Expr-0 hidden
@@ -34,25 +34,13 @@ returns : Returns
 unfolding rows is_of_scalar_mode dropped dropped_of_functions kinds predicates fields bodies_in inside nodes_in function_in types_listed operations_in operations_in_bodies operations_within operations_in_nodes sites_from types_in types_in_items types_in_entries nest_of nests_of has_own expr_of bound_found has_parameter node_count value_of parameters shape-the_row-ExprText-0 hidden-the_row-ExprText-0 shape-the_row-Expr-0 hidden-the_row-Expr-0 hidden
 returns = (refl, refl, refl, refl, refl, refl, refl)
 
-loop-bounds : LoopBounds
-unfolding rows is_of_scalar_mode dropped dropped_of_functions kinds predicates fields bodies_in inside nodes_in function_in types_listed operations_in operations_in_bodies operations_within operations_in_nodes sites_from types_in types_in_items types_in_entries nest_of nests_of has_own expr_of bound_found has_parameter node_count value_of parameters shape-the_row-ExprText-0 hidden-the_row-ExprText-0 shape-the_row-Expr-0 hidden-the_row-Expr-0 hidden
-loop-bounds = (refl, refl, refl, refl, refl, refl)
-
-carrying : Carrying
-unfolding rows is_of_scalar_mode dropped dropped_of_functions kinds predicates fields bodies_in inside nodes_in function_in types_listed operations_in operations_in_bodies operations_within operations_in_nodes sites_from types_in types_in_items types_in_entries nest_of nests_of has_own expr_of bound_found has_parameter node_count value_of parameters shape-the_row-ExprText-0 hidden-the_row-ExprText-0 shape-the_row-Expr-0 hidden-the_row-Expr-0 hidden
-carrying = (refl, refl, refl, refl, refl)
-
-loop-ends : LoopEnds
-unfolding rows is_of_scalar_mode dropped dropped_of_functions kinds predicates fields bodies_in inside nodes_in function_in types_listed operations_in operations_in_bodies operations_within operations_in_nodes sites_from types_in types_in_items types_in_entries nest_of nests_of has_own expr_of bound_found has_parameter node_count value_of parameters shape-the_row-ExprText-0 hidden-the_row-ExprText-0 shape-the_row-Expr-0 hidden-the_row-Expr-0 hidden
-loop-ends = (refl, refl, refl, refl, refl)
-
-counted-loops : CountedLoops
-unfolding rows is_of_scalar_mode dropped dropped_of_functions kinds predicates fields bodies_in inside nodes_in function_in types_listed operations_in operations_in_bodies operations_within operations_in_nodes sites_from types_in types_in_items types_in_entries nest_of nests_of has_own expr_of bound_found has_parameter node_count value_of parameters shape-the_row-ExprText-0 hidden-the_row-ExprText-0 shape-the_row-Expr-0 hidden-the_row-Expr-0 hidden
-counted-loops = (refl, refl, refl, refl)
-
 branching : Branching
 unfolding rows is_of_scalar_mode dropped dropped_of_functions kinds predicates fields bodies_in inside nodes_in function_in types_listed operations_in operations_in_bodies operations_within operations_in_nodes sites_from types_in types_in_items types_in_entries nest_of nests_of has_own expr_of bound_found has_parameter node_count value_of parameters shape-the_row-ExprText-0 hidden-the_row-ExprText-0 shape-the_row-Expr-0 hidden-the_row-Expr-0 hidden
-branching = (refl, refl, refl, refl, refl, refl, refl, refl, refl, refl, refl, refl, refl, refl)
+branching = (refl, refl, refl, refl, refl, refl, refl, refl, refl, refl)
+
+branch-ends : BranchEnds
+unfolding rows is_of_scalar_mode dropped dropped_of_functions kinds predicates fields bodies_in inside nodes_in function_in types_listed operations_in operations_in_bodies operations_within operations_in_nodes sites_from types_in types_in_items types_in_entries nest_of nests_of has_own expr_of bound_found has_parameter node_count value_of parameters shape-the_row-ExprText-0 hidden-the_row-ExprText-0 shape-the_row-Expr-0 hidden-the_row-Expr-0 hidden
+branch-ends = (refl, refl, refl, refl)
 
 pub region-examples : RegionExamples
-region-examples = (modules, function-properties, function-bodies, returns, loop-bounds, carrying, loop-ends, counted-loops, branching)
+region-examples = (modules, function-properties, function-bodies, returns, branching, branch-ends)

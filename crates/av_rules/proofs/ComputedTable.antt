@@ -40,7 +40,7 @@ marks-in-place = (refl, refl)
 
 modes : Modes
 unfolding rows is_of_scalar_mode dropped dropped_of_functions kinds predicates fields bodies_in inside nodes_in function_in types_listed operations_in operations_in_bodies operations_within operations_in_nodes sites_from types_in types_in_items types_in_entries nest_of nests_of has_own expr_of bound_found has_parameter node_count value_of parameters shape-the_row-ExprText-0 hidden-the_row-ExprText-0 shape-the_row-Expr-0 hidden-the_row-Expr-0 hidden
-modes = (refl, refl)
+modes = (refl, refl, refl)
 
 pub table-examples : TableExamples
 table-examples = (every-row, rows-taken, rows-refused, marks-elsewhere, marks-in-place, modes)

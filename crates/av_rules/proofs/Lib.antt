@@ -5,6 +5,7 @@ pub mod ComputedScalars
 pub mod ComputedBuffers
 pub mod ComputedVectors
 pub mod ComputedRegions
+pub mod ComputedLoops
 pub mod ComputedTable
 pub mod Least
 pub mod Read

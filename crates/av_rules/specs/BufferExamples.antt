@@ -1,4 +1,4 @@
--- Operations with affine maps, and those that touch buffers: each is taken, and refused for each thing that is asked of it.
+-- Operations with affine maps, and those that touch buffers, as they are taken and as they are refused.
 use Rattle.std.specs.Prelude.{ℕ, ◌≡◌, pos, negsuc, List, [], ◌∷◌, ◌++◌, map, flat_map, replicate, None, Some, codes}
 use Rattle.av_tree.specs.declared.attribute.Attr.{Attr}
 use Rattle.av_tree.specs.declared.attribute.Attr.TheVariants as attr

@@ -22,5 +22,6 @@ pub mod ScalarExamples
 pub mod BufferExamples
 pub mod VectorExamples
 pub mod RegionExamples
+pub mod LoopExamples
 pub mod TableExamples
 pub mod Walks

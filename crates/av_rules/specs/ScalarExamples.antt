@@ -1,4 +1,4 @@
--- The operations of arith: each is taken, and refused for each thing that is asked of its values and its properties.
+-- The operations of arith as they are taken, and as they are refused where their values and properties aren't as their rows say.
 use Rattle.std.specs.Prelude.{ℕ, pos, negsuc, true, List, [], ◌∷◌, ◌++◌, map, flat_map, None, codes}
 use Rattle.av_tree.specs.declared.attribute.Attr.{Attr}
 use Rattle.av_tree.specs.declared.attribute.Attr.TheVariants as attr

@@ -8,7 +8,8 @@ use Rattle.av_rules.specs.BufferExamples.{all_applied, each_with, fetching, fetc
 use Rattle.av_rules.specs.EdgeExamples.{small_shape}
 use Rattle.av_rules.specs.Examples.{AreRefused, AreTaken, EachRefused, EachTaken, IsRefused}
 use Rattle.av_rules.specs.Fails.{least}
-use Rattle.av_rules.specs.RegionExamples.{counter, counting, deciding, ends_here, holding, is_zero, returning, three_places, to_four, turning, with_type}
+use Rattle.av_rules.specs.LoopExamples.{counter, counting, parts, three_places, to_four, turning}
+use Rattle.av_rules.specs.RegionExamples.{both_end, deciding, holding, is_zero, returning, with_type}
 use Rattle.av_rules.specs.RowExamples.{i1, i64, truths}
 use Rattle.av_rules.specs.Rows.{rows}
 use Rattle.av_rules.specs.ScalarExamples.{binary_names, choosing, comparing, constant_of, each_of, extensions, flag, flags, four_of, lanes, less, to_each, values}
@@ -25,10 +26,10 @@ of_arith =
     ++ to_each (codes "arith.index_castui" ∷ []) place (i64 ∷ [])
 
 abbrev pub a_loop : Node
-a_loop = turning [] (to_four (pos 0))
+a_loop = turning [] (to_four (parts 0 0 0))
 
 abbrev pub a_choice : Node
-a_choice = deciding (place ∷ []) is_zero (ends_here ∷ ends_here ∷ [])
+a_choice = deciding (place ∷ []) is_zero both_end
 
 abbrev pub of_maps : List Node
 of_maps = each_with all_applied (place ∷ []) (with_map (map_over d0)) index
@@ -87,7 +88,8 @@ counted_yield = terminator (codes "scf.yield")
 abbrev pub EveryRow : Type 0
 EveryRow =
     map (λ node. (fields node).name)
-    ((tree_of []).root ∷ a_function ∷ returning [] ∷ of_arith ++ a_loop ∷ a_choice ∷ yield ∷ of_maps ++ of_elements ++ a_size ∷ a_counted_loop ∷ counted_yield ∷ of_many_elements ++ of_vectors)
+    ((tree_of []).root ∷ a_function ∷ returning [] ∷ of_arith ++ a_loop ∷ a_choice ∷ yield ∷ of_maps ++ of_elements ++ a_size
+    ∷ a_counted_loop ∷ counted_yield ∷ of_many_elements ++ of_vectors)
     ≡ map (λ row. row.name) rows
 
 abbrev pub RowsTaken : Type 0
@@ -148,7 +150,8 @@ to_vectorize node = body (named_results (codes "%c" ∷ []) (codes "arith.trunci
 abbrev pub Modes : Type 0
 Modes =
     (map (λ node. least (to_vectorize node) small_shape) of_scalar_mode ≡ map (λ _. None) of_scalar_mode)
-    × (map (λ node. least (to_vectorize node) small_shape) (a_counted_loop ∷ a_scale ∷ []) ≡ map (λ _. Some (record { operation = 3; code = 18 })) (a_counted_loop ∷ a_scale ∷ []))
+    × (least (to_vectorize a_counted_loop) small_shape ≡ Some (record { operation = 3; code = 18 }))
+    × (least (to_vectorize a_scale) small_shape ≡ Some (record { operation = 3; code = 18 }))
 
 abbrev pub TableExamples : Type 0
 TableExamples = EveryRow × RowsTaken × RowsRefused × MarksElsewhere × MarksInPlace × Modes

@@ -1,4 +1,4 @@
--- Operations that make vectors or take them apart: each is taken, and refused for each thing that is asked of it.
+-- Operations that make vectors or take them apart, as they are taken and as they are refused.
 use Rattle.std.specs.Prelude.{ℕ, ℤ, ◌≡◌, pos, negsuc, List, [], ◌∷◌, ◌++◌, map, None, Some, codes}
 use Rattle.av_tree.specs.declared.attribute.Attr.TheVariants as attr
 use Rattle.av_tree.specs.declared.attribute.Named.{Named}

@@ -4,6 +4,7 @@ ghost use Rattle.av_rules.specs.BufferExamples.{BufferExamples};
 ghost use Rattle.av_rules.specs.EdgeExamples.{EdgeExamples};
 ghost use Rattle.av_rules.specs.Examples.{RuleExamples};
 ghost use Rattle.av_rules.specs.Fails.{LeastLaw};
+ghost use Rattle.av_rules.specs.LoopExamples.{LoopExamples};
 ghost use Rattle.av_rules.specs.RegionExamples.{RegionExamples};
 ghost use Rattle.av_rules.specs.RowExamples.{RowExamples};
 ghost use Rattle.av_rules.specs.ScalarExamples.{ScalarExamples};
@@ -34,27 +35,30 @@ pub fn every_row()
     ensures { TableExamples }
 {}
 
-/// Each operation of arith is taken, and refused for each thing that is asked of it.
+/// Operations of arith as they are taken, and refused where operands, results, types, properties or values
+/// aren't as their rows say.
 pub fn scalar_operations()
     ensures { ScalarExamples }
 {}
 
-/// Each operation with affine maps and each that touches a buffer is taken, and refused for each thing that
-/// is asked of it.
+/// The same of operations with affine maps, and of those that touch buffers.
 pub fn buffer_operations()
     ensures { BufferExamples }
 {}
 
-/// Each operation that makes vectors or takes them apart is taken, and refused for each thing that is asked
-/// of it.
+/// The same of operations that make vectors or take them apart.
 pub fn vector_operations()
     ensures { VectorExamples }
 {}
 
-/// The module, functions, loops, choices and what ends their regions are taken, and refused for each thing
-/// that is asked of them.
+/// The same of the module, functions and choices, and of what ends the regions of functions.
 pub fn region_operations()
     ensures { RegionExamples }
+{}
+
+/// The same of loops, and of what ends their regions.
+pub fn loop_operations()
+    ensures { LoopExamples }
 {}
 
 /// At the edges of limits, and where two things are wrong, trees that are taken or refused as is said.
