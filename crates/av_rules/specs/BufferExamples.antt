@@ -53,7 +53,8 @@ Extremes =
     × EachRefused [] (each_with all_applied (place ∷ []) [] index) 7
     × EachRefused [] (each_with all_applied (place ∷ []) (with_map (number (pos 3) index)) index
     ++ each_with all_applied (place ∷ []) (entry (codes "map") (map_over d0) ∷ entry (codes "step") (number (pos 1) index) ∷ []) index) 8
-    × EachRefused [] (each_with all_applied (place ∷ place ∷ []) (with_map (map_over d0)) index ++ each_with all_applied (place ∷ []) (with_map (bound (pos 3))) index
+    × EachRefused [] (each_with all_applied (place ∷ place ∷ []) (with_map (map_over d0)) index
+    ++ each_with all_applied (place ∷ []) (with_map (bound (pos 3))) index
     ++ each_with all_applied (place ∷ []) (with_map (to_results [])) index
     ++ each_with (codes "affine.apply" ∷ []) (place ∷ []) (with_map (to_results (d0 ∷ three ∷ []))) index) 9
     × EachRefused [] (each_with all_applied (word ∷ []) (with_map (map_over d0)) index) 10
@@ -94,7 +95,8 @@ AffineLoads =
     ∷ reading (cells ∷ place ∷ []) (to_results []) i32 ∷ reading (cells ∷ place ∷ []) (to_results (d0 ∷ d0 ∷ [])) i32 ∷ []) 9
     × EachRefused [] (reading (cells ∷ word ∷ []) (map_over d0) i32 ∷ []) 10
     × EachRefused [] (reading (cells ∷ place ∷ []) (map_over (expr.Mul d0 d0)) i32 ∷ []) 15
-    × IsTaken (body_over grid (reading (grid_cells ∷ place ∷ []) (to_results (d0 ∷ three ∷ [])) i32 ∷ [])) × IsTaken (body_over cell (reading (cell_value ∷ []) no_result i32 ∷ []))
+    × IsTaken (body_over grid (reading (grid_cells ∷ place ∷ []) (to_results (d0 ∷ three ∷ [])) i32 ∷ []))
+    × IsTaken (body_over cell (reading (cell_value ∷ []) no_result i32 ∷ []))
     × IsRefused (body_over grid (reading (grid_cells ∷ place ∷ []) (map_over d0) i32 ∷ [])) 2 9
 
 -- an element's value first, then as in loads
@@ -111,7 +113,8 @@ AffineStores =
     ∷ writing (word ∷ cells ∷ place ∷ []) (to_results []) ∷ writing (word ∷ cells ∷ place ∷ []) (to_results (d0 ∷ d0 ∷ [])) ∷ []) 9
     × EachRefused [] (writing (word ∷ cells ∷ word ∷ []) (map_over d0) ∷ []) 10
     × EachRefused [] (writing (word ∷ cells ∷ place ∷ []) (map_over (expr.Mul d0 d0)) ∷ []) 15
-    × IsTaken (body_over grid (writing (word ∷ grid_cells ∷ place ∷ []) (to_results (d0 ∷ three ∷ [])) ∷ [])) × IsTaken (body_over cell (writing (word ∷ cell_value ∷ []) no_result ∷ []))
+    × IsTaken (body_over grid (writing (word ∷ grid_cells ∷ place ∷ []) (to_results (d0 ∷ three ∷ [])) ∷ []))
+    × IsTaken (body_over cell (writing (word ∷ cell_value ∷ []) no_result ∷ []))
     × IsRefused (body_over grid (writing (word ∷ grid_cells ∷ place ∷ []) (map_over d0) ∷ [])) 2 9
 
 -- ---- subscripts that are values
@@ -136,7 +139,8 @@ PlainAccess =
     × EachRefused [] (fetching (cells ∷ word ∷ []) i32 ∷ fetching (word ∷ place ∷ []) i32 ∷ fetching (cells ∷ place ∷ []) i64
     ∷ putting (word ∷ cells ∷ word ∷ []) ∷ putting (word ∷ word ∷ place ∷ []) ∷ putting (place ∷ cells ∷ place ∷ [])
     ∷ sizing (cells ∷ word ∷ []) index ∷ sizing (word ∷ place ∷ []) index ∷ sizing (cells ∷ place ∷ []) i32 ∷ []) 6
-    × EachRefused [] (gives (codes "memref.load") (cells ∷ place ∷ []) (with_map (map_over d0)) i32 ∷ acts (codes "memref.store") (word ∷ cells ∷ place ∷ []) (with_map (map_over d0))
+    × EachRefused [] (gives (codes "memref.load") (cells ∷ place ∷ []) (with_map (map_over d0)) i32
+    ∷ acts (codes "memref.store") (word ∷ cells ∷ place ∷ []) (with_map (map_over d0))
     ∷ gives (codes "memref.dim") (cells ∷ place ∷ []) (with_map (map_over d0)) index ∷ []) 8
     × IsTaken (body_over grid (fetching (grid_cells ∷ place ∷ place ∷ []) i32 ∷ putting (word ∷ grid_cells ∷ place ∷ place ∷ []) ∷ []))
     × IsTaken (body_over cell (fetching (cell_value ∷ []) i32 ∷ putting (word ∷ cell_value ∷ []) ∷ []))
@@ -164,7 +168,8 @@ VectorAccess =
     × EachRefused values (fetching_lanes (cells ∷ []) four ∷ fetching_lanes (cells ∷ place ∷ place ∷ []) four
     ∷ putting_lanes (lanes ∷ cells ∷ []) ∷ putting_lanes (lanes ∷ cells ∷ place ∷ place ∷ []) ∷ []) 2
     × EachRefused values (acts (codes "vector.load") (cells ∷ place ∷ []) [] ∷ gives (codes "vector.store") (lanes ∷ cells ∷ place ∷ []) [] four ∷ []) 3
-    × EachRefused values (fetching_lanes (cells ∷ place ∷ []) i32 ∷ fetching_lanes (cells ∷ place ∷ []) (four_of (codes "i64")) ∷ fetching_lanes (cells ∷ place ∷ []) square
+    × EachRefused values (fetching_lanes (cells ∷ place ∷ []) i32 ∷ fetching_lanes (cells ∷ place ∷ []) (four_of (codes "i64"))
+    ∷ fetching_lanes (cells ∷ place ∷ []) square
     ∷ fetching_lanes (cells ∷ word ∷ []) four ∷ fetching_lanes (word ∷ place ∷ []) four
     ∷ putting_lanes (word ∷ cells ∷ place ∷ []) ∷ putting_lanes (flags ∷ cells ∷ place ∷ []) ∷ putting_lanes (lanes ∷ cells ∷ word ∷ [])
     ∷ putting_lanes (lanes ∷ word ∷ place ∷ []) ∷ []) 6
@@ -189,7 +194,8 @@ MaskedAccess =
     EachTaken values (fetching_some (cells ∷ place ∷ flags ∷ lanes ∷ []) four ∷ putting_some (cells ∷ place ∷ flags ∷ lanes ∷ []) ∷ [])
     × EachRefused values (flat_map (λ operands. fetching_some operands four ∷ putting_some operands ∷ [])
     ((cells ∷ place ∷ lanes ∷ []) ∷ (cells ∷ flags ∷ lanes ∷ []) ∷ (cells ∷ place ∷ place ∷ flags ∷ lanes ∷ []) ∷ [])) 2
-    × EachRefused values (acts (codes "vector.maskedload") (cells ∷ place ∷ flags ∷ lanes ∷ []) [] ∷ gives (codes "vector.maskedstore") (cells ∷ place ∷ flags ∷ lanes ∷ []) [] four ∷ []) 3
+    × EachRefused values (acts (codes "vector.maskedload") (cells ∷ place ∷ flags ∷ lanes ∷ []) []
+    ∷ gives (codes "vector.maskedstore") (cells ∷ place ∷ flags ∷ lanes ∷ []) [] four ∷ []) 3
     × EachRefused values (fetching_some (cells ∷ place ∷ flags ∷ lanes ∷ []) truths ∷ fetching_some (cells ∷ place ∷ flags ∷ flags ∷ []) truths
     ∷ fetching_some (cells ∷ place ∷ flags ∷ word ∷ []) i32 ∷ map putting_some disagreeing ++ map (λ operands. fetching_some operands four) disagreeing) 6
     × IsRefused (body_over cell (values ++ fetching_some (cell_value ∷ flags ∷ lanes ∷ []) four ∷ [])) 6 6
@@ -203,7 +209,8 @@ accesses more =
     ∷ acts (codes "affine.store") (word ∷ cells ∷ place ∷ []) (with_map (map_over d0) ++ more)
     ∷ gives (codes "memref.load") (cells ∷ place ∷ []) more i32 ∷ acts (codes "memref.store") (word ∷ cells ∷ place ∷ []) more
     ∷ gives (codes "vector.load") (cells ∷ place ∷ []) more four ∷ acts (codes "vector.store") (lanes ∷ cells ∷ place ∷ []) more
-    ∷ gives (codes "vector.maskedload") (cells ∷ place ∷ flags ∷ lanes ∷ []) more four ∷ acts (codes "vector.maskedstore") (cells ∷ place ∷ flags ∷ lanes ∷ []) more ∷ []
+    ∷ gives (codes "vector.maskedload") (cells ∷ place ∷ flags ∷ lanes ∷ []) more four
+    ∷ acts (codes "vector.maskedstore") (cells ∷ place ∷ flags ∷ lanes ∷ []) more ∷ []
 
 -- they may have the number of a source
 abbrev pub AccessMarks : Type 0

@@ -62,7 +62,8 @@ LoopBounds =
     × EachRefused [] (map (turning []) (each_lacking (to_four (parts 0 0 0)))) 7
     × EachRefused [] (map (turning []) (each_spoilt (to_four (parts 0 0 0)) ++ numbered attr.Unit (to_four (parts 0 0 0)) ∷ [])) 8
     × EachRefused [] (map (λ e. turning [] (changed (to_four (parts 0 0 0)) e))
-    (entry (codes "step") (number (pos 1) i32) ∷ entry (codes "operandSegmentSizes") (attr.Array i64 (parts 0 0 0)) ∷ entry (codes "upperBoundMap") (number (pos 4) index) ∷ [])) 8
+    (entry (codes "step") (number (pos 1) i32) ∷ entry (codes "operandSegmentSizes") (attr.Array i64 (parts 0 0 0))
+    ∷ entry (codes "upperBoundMap") (number (pos 4) index) ∷ [])) 8
     × EachRefused [] (map (turning []) (from_map no_result (parts 0 0 0) ∷ to_map no_result (parts 0 0 0) ∷ to_four (pos 0 ∷ pos 0 ∷ []) ∷ [])) 9
     × EachRefused [] (map (turning (place ∷ [])) (from_map (map_over d0) (parts 0 1 0) ∷ to_map (map_over d0) (parts 1 0 0) ∷ to_four (parts 0 0 0) ∷ [])) 9
     × EachRefused [] (map (turning (word ∷ [])) (from_map (map_over d0) (parts 1 0 0) ∷ to_map (map_over d0) (parts 0 1 0) ∷ [])) 10
@@ -108,7 +109,8 @@ loops_of nodes = map (λ c. carrying word (counter ∷ running ∷ []) (nodes c)
 abbrev pub Carrying : Type 0
 Carrying =
     EachTaken [] (loops word counter running i32)
-    × EachRefused [] (map (λ c. holding [] c.name (c.needed ++ word ∷ []) c.properties (region (counter ∷ running ∷ []) (hands_on (running ∷ []) c ∷ []) ∷ []) []) carriers) 3
+    × EachRefused [] (map (λ c. holding [] c.name (c.needed ++ word ∷ []) c.properties (region (counter
+    ∷ running ∷ []) (hands_on (running ∷ []) c ∷ []) ∷ []) []) carriers) 3
     × EachRefused [] (loops word counter (arg (codes "%t") i64) i32 ++ loops word (arg (codes "%i") i32) running i32 ++ loops place counter running i32
     ++ loops word counter running i64 ++ loops cells counter (arg (codes "%t") buffer) buffer) 6
     × EachRefused [] (loops_of (λ c. []) ++ loops_of (λ c. ending (codes "func.return") (running ∷ []) ∷ [])
@@ -117,10 +119,11 @@ Carrying =
     × EachRefused [] (map (λ c. carrying word (counter ∷ []) (hands_on (word ∷ []) c ∷ []) i32 c) carriers
     ++ map (λ c. holding (codes "%r" ∷ []) c.name (c.needed ++ word ∷ []) c.properties [] (i32 ∷ [])) carriers) 13
 
--- in a region that has to hand on a number: a terminator with other operands, with a result or an entry, and before the end
+-- each in a function of its own
 abbrev pub alone : List Node → List Tree
 alone nodes = map (λ node. body (node ∷ [])) nodes
 
+-- in a region that has to hand on a number: a terminator with other operands, with a result or an entry, and before the end
 abbrev pub LoopEnds : Type 0
 LoopEnds =
     AreRefused (alone (loops_of (λ c. hands_on [] c ∷ []) ++ loops_of (λ c. hands_on (running ∷ running ∷ []) c ∷ []))) 3 2

@@ -1,5 +1,5 @@
 -- Operations that have regions, and those that end regions, as they are taken and as they are refused.
-use Rattle.std.specs.Prelude.{ℕ, ℤ, not, pos, true, List, [], ◌∷◌, ◌++◌, map, codes}
+use Rattle.std.specs.Prelude.{ℕ, not, pos, true, List, [], ◌∷◌, ◌++◌, map, codes}
 use Rattle.std.specs.List.{filter}
 use Rattle.av_tree.specs.declared.attribute.Attr.{Attr}
 use Rattle.av_tree.specs.declared.attribute.Attr.TheVariants as attr
@@ -11,11 +11,10 @@ use Rattle.av_tree.specs.declared.node.Tree.{Tree}
 use Rattle.av_tree.specs.declared.written.ExprText.{ExprText}
 use Rattle.av_tree.specs.declared.written.ExprText.TheVariants as expr
 use Rattle.av_tree.specs.declared.written.TypeText.{TypeText, Func'}
-use Rattle.av_rules.specs.BufferExamples.{no_result, three, to_results}
 use Rattle.av_rules.specs.Entries.{is_entry}
 use Rattle.av_rules.specs.Examples.{AreRefused, AreTaken, EachRefused, EachTaken, IsRefused, IsTaken}
 use Rattle.av_rules.specs.RowExamples.{i64}
-use Rattle.av_rules.specs.Trees.{acts, arg, body, bound, buffer, cells, constant, d0, entry, four, gives, i32, index, loop, map_over, named_results, number, operation, place, region, row_of_types, shape, terminator, tree_of, word, yield}
+use Rattle.av_rules.specs.Trees.{acts, arg, body, buffer, cells, constant, d0, entry, four, gives, i32, index, loop, map_over, number, operation, place, region, row_of_types, shape, terminator, tree_of, word, yield}
 
 -- ---- operations with regions
 -- NAME(operands) <{properties}> (regions), with these results of these types
@@ -161,7 +160,8 @@ Branching =
     × EachRefused [] (deciding [] is_zero both_end ∷ deciding (place ∷ place ∷ []) is_zero both_end ∷ []) 9
     × EachRefused [] (deciding (word ∷ []) is_zero both_end ∷ []) 10
     × EachRefused [] (map (deciding (place ∷ []) is_zero)
-    ((ends_here ∷ region [] (terminator (codes "scf.yield") ∷ []) ∷ []) ∷ (region [] (returning [] ∷ []) ∷ ends_here ∷ []) ∷ (ends_here ∷ region [] [] ∷ []) ∷ [])) 12
+    ((ends_here ∷ region [] (terminator (codes "scf.yield") ∷ []) ∷ []) ∷ (region [] (returning [] ∷ []) ∷ ends_here ∷ [])
+    ∷ (ends_here ∷ region [] [] ∷ []) ∷ [])) 12
     × EachRefused [] (map (deciding (place ∷ []) is_zero)
     ((ends_here ∷ []) ∷ (ends_here ∷ both_end) ∷ (region (arg (codes "%i") index ∷ []) (yield ∷ []) ∷ ends_here ∷ []) ∷ [])) 13
     × EachRefused [] (deciding (place ∷ []) (entry (codes "condition") (set_over (expr.Mul d0 d0)) ∷ []) both_end ∷ []) 15

@@ -64,7 +64,8 @@ Binary =
     × EachTaken values (each_of binary_names (lanes ∷ lanes ∷ []) four)
     × EachRefused [] (each_of binary_names (word ∷ []) i32 ++ each_of binary_names (word ∷ word ∷ word ∷ []) i32) 2
     × EachRefused [] (map (λ name. acts name (word ∷ word ∷ []) []) binary_names) 3
-    × EachRefused [] (each_of binary_names (word ∷ place ∷ []) i32 ++ each_of binary_names (word ∷ word ∷ []) i64 ++ each_of binary_names (cells ∷ cells ∷ []) buffer) 6
+    × EachRefused [] (each_of binary_names (word ∷ place ∷ []) i32 ++ each_of binary_names (word ∷ word ∷ []) i64
+    ++ each_of binary_names (cells ∷ cells ∷ []) buffer) 6
     × EachRefused values (each_of binary_names (lanes ∷ word ∷ []) four) 6
 
 -- ---- comparing and choosing

@@ -107,7 +107,8 @@ kind_names =
 -- the lanes of a vector of one dimension, and perhaps one more element, are combined to an element by one of nine kinds
 abbrev pub ManyReductions : Type 0
 ManyReductions =
-    EachTaken vectors (map (λ kind. by_kind (of_kind (kind ∷ []))) kind_names ++ reducing (lanes ∷ word ∷ []) i32 ∷ reducing (scaled_lanes ∷ []) i32 ∷ reducing (flags ∷ flag ∷ []) i1 ∷ [])
+    EachTaken vectors (map (λ kind. by_kind (of_kind (kind ∷ []))) kind_names ++ reducing (lanes ∷ word ∷ []) i32 ∷ reducing (scaled_lanes ∷ []) i32
+    ∷ reducing (flags ∷ flag ∷ []) i1 ∷ [])
     × EachRefused vectors (reducing [] i32 ∷ reducing (lanes ∷ word ∷ word ∷ []) i32 ∷ []) 2
     × EachRefused vectors (acts (codes "vector.reduction") (lanes ∷ []) (of_kind (codes "add" ∷ [])) ∷ []) 3
     × EachRefused vectors (reducing (word ∷ []) i32 ∷ reducing (cells ∷ []) i32 ∷ reducing (lanes ∷ []) i64 ∷ reducing (lanes ∷ []) four
@@ -134,7 +135,8 @@ rows_value = arg (codes "%w") rows_of_four
 abbrev pub Extracts : Type 0
 Extracts =
     EachTaken vectors (extracting lanes (pos 3 ∷ []) i32 ∷ extracting lanes [] four ∷ extracting scaled_lanes (pos 3 ∷ []) i32 ∷ [])
-    × EachRefused vectors (gives (codes "vector.extract") [] (at_position (pos 3 ∷ [])) i32 ∷ gives (codes "vector.extract") (lanes ∷ lanes ∷ []) (at_position (pos 3 ∷ [])) i32 ∷ []) 2
+    × EachRefused vectors (gives (codes "vector.extract") [] (at_position (pos 3 ∷ [])) i32
+    ∷ gives (codes "vector.extract") (lanes ∷ lanes ∷ []) (at_position (pos 3 ∷ [])) i32 ∷ []) 2
     × EachRefused vectors (acts (codes "vector.extract") (lanes ∷ []) (at_position (pos 3 ∷ [])) ∷ []) 3
     × EachRefused vectors (extracting lanes (pos 3 ∷ []) i64 ∷ extracting lanes [] i32 ∷ extracting word [] i32 ∷ extracting cells (pos 3 ∷ []) i32 ∷ []) 6
     × EachRefused vectors (gives (codes "vector.extract") (lanes ∷ []) [] i32 ∷ []) 7
@@ -152,10 +154,12 @@ inserting operands numbers t = gives (codes "vector.insert") operands (at_positi
 -- a vector like the second, with the first at a position of it
 abbrev pub Inserts : Type 0
 Inserts =
-    EachTaken vectors (inserting (word ∷ lanes ∷ []) (pos 3 ∷ []) four ∷ inserting (lanes ∷ lanes ∷ []) [] four ∷ inserting (word ∷ scaled_lanes ∷ []) (pos 3 ∷ []) (scaled 4) ∷ [])
+    EachTaken vectors (inserting (word ∷ lanes ∷ []) (pos 3 ∷ []) four ∷ inserting (lanes ∷ lanes ∷ []) [] four
+    ∷ inserting (word ∷ scaled_lanes ∷ []) (pos 3 ∷ []) (scaled 4) ∷ [])
     × EachRefused vectors (inserting (lanes ∷ []) (pos 3 ∷ []) four ∷ inserting (word ∷ lanes ∷ place ∷ []) (pos 3 ∷ []) four ∷ []) 2
     × EachRefused vectors (acts (codes "vector.insert") (word ∷ lanes ∷ []) (at_position (pos 3 ∷ [])) ∷ []) 3
-    × EachRefused vectors (inserting (place ∷ lanes ∷ []) (pos 3 ∷ []) four ∷ inserting (lanes ∷ lanes ∷ []) (pos 3 ∷ []) four ∷ inserting (word ∷ lanes ∷ []) [] four
+    × EachRefused vectors (inserting (place ∷ lanes ∷ []) (pos 3 ∷ []) four ∷ inserting (lanes ∷ lanes ∷ []) (pos 3 ∷ []) four
+    ∷ inserting (word ∷ lanes ∷ []) [] four
     ∷ inserting (word ∷ lanes ∷ []) (pos 3 ∷ []) (scaled 4) ∷ inserting (word ∷ word ∷ []) [] i32 ∷ inserting (word ∷ cells ∷ []) (pos 3 ∷ []) buffer ∷ []) 6
     × EachRefused vectors (gives (codes "vector.insert") (word ∷ lanes ∷ []) [] four ∷ []) 7
     × EachRefused vectors (gives (codes "vector.insert") (word ∷ lanes ∷ []) (listed (codes "static_position") i32 (pos 3 ∷ [])) four ∷ []) 8
@@ -175,7 +179,8 @@ Shuffles =
     × EachRefused vectors (picking (lanes ∷ []) (pos 0 ∷ []) (words 1) ∷ picking (lanes ∷ lanes ∷ lanes ∷ []) (pos 0 ∷ []) (words 1) ∷ []) 2
     × EachRefused vectors (acts (codes "vector.shuffle") (lanes ∷ lanes ∷ []) (listed (codes "mask") i64 (pos 0 ∷ [])) ∷ []) 3
     × EachRefused vectors (picking (scaled_lanes ∷ lanes ∷ []) (pos 0 ∷ []) (words 1) ∷ picking (lanes ∷ scaled_lanes ∷ []) (pos 0 ∷ []) (words 1)
-    ∷ picking (lanes ∷ flags ∷ []) (pos 0 ∷ []) (words 1) ∷ picking (word ∷ word ∷ []) (pos 0 ∷ []) (words 1) ∷ picking (lanes ∷ lanes ∷ []) (pos 0 ∷ pos 7 ∷ []) (words 3)
+    ∷ picking (lanes ∷ flags ∷ []) (pos 0 ∷ []) (words 1) ∷ picking (word ∷ word ∷ []) (pos 0 ∷ []) (words 1)
+    ∷ picking (lanes ∷ lanes ∷ []) (pos 0 ∷ pos 7 ∷ []) (words 3)
     ∷ picking (lanes ∷ lanes ∷ []) (pos 0 ∷ []) (two_of (codes "i64")) ∷ []) 6
     × EachRefused vectors (gives (codes "vector.shuffle") (lanes ∷ lanes ∷ []) [] (words 1) ∷ []) 7
     × EachRefused vectors (gives (codes "vector.shuffle") (lanes ∷ lanes ∷ []) (listed (codes "mask") i32 (pos 0 ∷ [])) (words 1) ∷ []) 8
