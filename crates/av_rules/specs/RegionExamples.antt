@@ -14,6 +14,7 @@ use Rattle.av_tree.specs.declared.written.TypeText.{TypeText, Func'}
 use Rattle.av_rules.specs.Entries.{is_entry}
 use Rattle.av_rules.specs.Examples.{AreRefused, AreTaken, EachRefused, EachTaken, IsRefused, IsTaken}
 use Rattle.av_rules.specs.RowExamples.{i64}
+use Rattle.av_rules.specs.ScalarExamples.{lanes}
 use Rattle.av_rules.specs.Trees.{acts, arg, body, buffer, cells, constant, d0, entry, four, gives, i32, index, loop, map_over, number, operation, place, region, row_of_types, shape, terminator, tree_of, word, yield}
 
 -- ---- operations with regions
@@ -92,9 +93,6 @@ with_type inputs results args nodes = of_function (typed inputs results ∷ name
 -- and one that returns some of its arguments
 abbrev pub giving_back : List BodyArg → List BodyArg → List TypeText → Tree
 giving_back args operands results = with_type (map (λ (a : BodyArg). a.ty) args) results args (returning operands ∷ [])
-
-abbrev pub lanes : BodyArg
-lanes = arg (codes "%v") four
 
 abbrev pub returns_only : Body
 returns_only = region [] (returning [] ∷ [])
