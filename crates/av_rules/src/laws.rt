@@ -13,8 +13,7 @@ ghost use Rattle.av_rules.specs.VectorExamples.{VectorExamples};
 ghost use Rattle.av_rules.specs.Views.{ViewsLaw};
 ghost use Rattle.av_rules.specs.Walks.{AllSitesLaw};
 
-/// The pair that is answered fails and none that fails comes before it; none is answered exactly where
-/// none fails.
+/// The least pair fails and comes before all others that fail; there is none exactly where none fails.
 pub fn least_pairs()
     ensures { LeastLaw }
 {}
@@ -29,14 +28,12 @@ pub fn some_operations()
     ensures { RowExamples }
 {}
 
-/// The operation of each row is taken, and refused with an entry that it doesn't have; and so with marks, and
-/// where a module is to be vectorized.
+/// The operation of each row is taken, with its mark too, and refused with an entry that it doesn't have.
 pub fn every_row()
     ensures { TableExamples }
 {}
 
-/// Operations of arith as they are taken, and refused where operands, results, types, properties or values
-/// aren't as their rows say.
+/// Operations of arith that are taken, and some that are refused for each thing that their rows ask.
 pub fn scalar_operations()
     ensures { ScalarExamples }
 {}
