@@ -107,7 +107,7 @@ module _ {most : ℕ} (two : 2 ≤ most) where
       → Makes most (symbol.Rows (name.Region regions_name.Region) ∷ symbol.Rows (name.Attribute attributes_name.OptionalDictionary) ∷ [])
       (sign_word sign.OpenCurly ∷ (inside ++ (sign_word sign.CloseCurly ∷ mark_words (codes "affvec.loop") number)))
       (value.Nodes nodes ∷ value.Entries (mark (codes "affvec.loop") number) ∷ [])
-  unfolding keywords
+  unfolding keywords names
   body_words inside nodes number few made =
       respelled (ap (λ l. sign_word sign.OpenCurly ∷ l) (append_assoc inside (sign_word sign.CloseCurly ∷ []) (mark_words (codes "affvec.loop") number)))
       (followed (made_region made) (made_mark (codes "affvec.loop") number refl few nothing))
