@@ -24,6 +24,7 @@ use Rattle.av_values.specs.declared.gifts.Change.{Change}
 use Rattle.av_values.specs.declared.gifts.Change.TheVariants as change
 use Rattle.av_values.specs.declared.gifts.Gift.{Gift}
 use Rattle.av_values.specs.Gifts.{Line, changed, end_of, filled, given, put_at_slot, region_of, unwritten, with_args_before}
+use Rattle.av_values.specs.Loops.{counter}
 use Rattle.av_values.specs.Made.{angled_gift, gift_of, made, made_of, split, type_gift, word_gift}
 use Rattle.av_values.specs.Sorts.{All, sort_of, sorts_of}
 use Rattle.av_read_laws.specs.Places.{unplaced_body, unplaced_node}
@@ -71,7 +72,7 @@ change-unplaced (change.Chosen c) n = refl
 change-unplaced (change.Properties es) n = refl
 change-unplaced (change.Attributes es) n = refl
 change-unplaced (change.Valued c) n = refl
-change-unplaced (change.Counting name) n = ap (with-regions (record n { place = 0 })) (args-unplaced _ n.regions)
+change-unplaced (change.Counting name) n = ap (with-regions (record n { place = 0 })) (args-unplaced (counter name ∷ []) n.regions)
 change-unplaced (change.Lower map size) n = refl
 change-unplaced (change.Upper map size) n = refl
 change-unplaced (change.Carrying args ts) n =
