@@ -3,13 +3,13 @@
 ghost use Rattle.std.specs.Prelude.{◌≡◌, ◌+◌, ◌==◌, ◌&&◌, length, map, option_map};
 ghost use Rattle.std.specs.List.{list_all};
 ghost use Rattle.std.specs.Option.{option_and_then, option_copied};
-ghost use Rattle.av_maps.specs.Asked.{takes};
+ghost use Rattle.av_maps.specs.Asked.{set_takes, takes};
 ghost use Rattle.av_maps.specs.Roles.{are_in_place};
-ghost use Rattle.av_maps.specs.Written.{map_of};
+ghost use Rattle.av_maps.specs.Written.{map_of, set_of};
 ghost use Rattle.av_maps.specs.Names.{map_in, set_in};
 ghost use Rattle.av_rules.specs.Entries.{entry_of};
 ghost use Rattle.av_rules.specs.Places.{operand_types};
-ghost use Rattle.av_rules.specs.Properties.{asks_arity, has_arity, has_arity_of, has_roles, has_roles_of, is_amount, is_short, roles_of, used_by};
+ghost use Rattle.av_rules.specs.Properties.{are_parted, asks_arity, has_arity, has_arity_of, has_roles, has_roles_of, is_amount, is_short, roles_of, used_by};
 ghost use Rattle.av_rules.specs.Scopes.{role_named};
 ghost use Rattle.av_rules.specs.Views.{fields};
 ghost use Rattle.av_signatures.specs.Rows.{property};
@@ -45,9 +45,18 @@ pub fn has_arity(row: &Signature, node: &Node, aliases: &[Alias], types: &[Optio
         → result ≡ has_arity (row_with name row.now) (record site { node = node.now; aliases = aliases.now })
     }
 {
-    are_parted(row, node)
-        && have_arity(row.properties, node, aliases, types)
-        && ask_arity(row.demands, node, types)
+    are_arranged(row, node, aliases, types) && ask_arity(row.demands, node, types)
+}
+
+// Whether the parts of a loop's operands are all of them, and each map and set fits its operands.
+fn are_arranged(row: &Signature, node: &Node, aliases: &[Alias], types: &[Option<Ty>]) -> bool
+    ensures {
+        (name : _) (site : _) → operand_types (record site { node = node.now }) ≡ types.now
+        → result ≡ (are_parted (row_with name row.now) (record site { node = node.now })
+        && list_all (λ p. has_arity_of (record site { node = node.now; aliases = aliases.now }) p p.form) (row_with name row.now).properties)
+    }
+{
+    are_parted(row, node) && have_arity(row.properties, node, aliases, types)
 }
 
 fn have_arity(
@@ -84,7 +93,7 @@ fn has_arity_of(
             None => true,
         },
         Form::Set(uses) => match set_at(node, aliases, label) {
-            Some(set) => has_parameters(set.dims.len(), set.syms.len(), node, uses),
+            Some(set) => set_fits(node, set, uses),
             None => true,
         },
         _ => true,
@@ -106,6 +115,13 @@ fn map_fits(
 {
     has_parameters(map.dims.len(), map.syms.len(), node, uses)
         && is_amount(node, types, amount, map.results.len())
+}
+
+// Whether a set has a parameter for each operand that it takes.
+fn set_fits(node: &Node, set: &SetText, uses: Uses) -> bool
+    ensures { (site : _) → result ≡ set_takes (set_of set.now) (length (used_by (record site { node = node.now }) uses)) }
+{
+    has_parameters(set.dims.len(), set.syms.len(), node, uses)
 }
 
 // Whether so many dimensions and symbols are as many as the operands that are used.
