@@ -1,12 +1,13 @@
 -- When the operations of a tree times its lanes aren't too many, and products of sizes up to a greatest number.
 use Rattle.std.proofs.Common.{◌≡◌, ◌∙◌, ℕ, zero, suc, ◌+◌, ◌*◌, ◌<◌, ◌≤◌, min, arith, Bool, true, false, List, [], ◌∷◌, ◌++◌, length, map, take, get_or, refl, ap, sym, subst}
-use Rattle.std.specs.Prelude.{◌&&◌, nat_le, nat_lt, if◌then◌else◌, flat_map, unwrap_or}
-use Rattle.std.specs.List.{list_all}
+use Rattle.std.specs.Prelude.{◌&&◌, ◌||◌, not, Option, slice_get, nat_le, nat_lt, if◌then◌else◌, flat_map, unwrap_or}
+use Rattle.std.specs.List.{list_all, list_any}
 use Rattle.std.proofs.Math.Nat.{mul_assoc, mul_comm, mul-le-mul_left, mul-suc, mul-zero}
 use Rattle.std.proofs.lemmas.Bool.Decides.{nat_tests}
 use Rattle.std.proofs.lemmas.List.{map-append, take_more}
 use Rattle.std.proofs.lemmas.List.Concat.{flat_map-cons}
-use Rattle.std.proofs.lemmas.List.Folds.{list_all-append, list_all-map}
+use Rattle.std.proofs.lemmas.List.Folds.{list_all-append, list_all_at, list_all-map, list_all_more}
+use Rattle.std.proofs.lemmas.Option.{slice_get-get_or}
 use Rattle.av_shapes.specs.Shape.{product}
 use Rattle.av_tree.specs.declared.node.Node.{Node}
 use Rattle.av_tree.specs.declared.node.Tree.{Tree}
@@ -119,3 +120,39 @@ pub small-if-cut : (n p limit most : ℕ) → limit < most → nat_le (min (n * 
 small-if-cut n p limit most h =
     ap (λ k. nat_le (min k most) limit) (mul_comm n (min p most)) ∙ ap (λ k. nat_le k limit) (cut-twice p n most ∙ ap (λ k. min k most) (mul_comm p n))
     ∙ grind (arith, nat_tests)
+
+-- the next size of a list, where the product so far is known
+pub product-next : (xs : List ℕ) (i : ℕ) (found : Option ℕ) (lanes each new most : ℕ) → i < length xs → found ≡ slice_get xs i → each ≡ unwrap_or found 1
+    → new ≡ min (lanes * each) most → lanes ≡ min (product (take i xs)) most → new ≡ min (product (take (i + 1) xs)) most
+product-next xs i found lanes each new most below f e n l =
+    let item : each ≡ get_or xs i 0 = e ∙ ap (λ o. unwrap_or o 1) (f ∙ slice_get-get_or xs i 0 below) in
+    let split : product (take (i + 1) xs) ≡ product (take i xs) * each =
+        ap product (take_more xs i 0 below) ∙ product-append (take i xs) (get_or xs i 0) ∙ ap (λ k. product (take i xs) * k) (sym item)
+    in n ∙ ap (λ k. min (k * each) most) l ∙ cut-twice (product (take i xs)) each most ∙ ap (λ k. min k most) (sym split)
+
+-- ---- none passes
+pub none-passes : {A : Type 0} (p : A → Bool) (xs : List A) → list_all (λ x. not (p x)) xs ≡ not (list_any p xs)
+none-passes p [] = refl
+none-passes p (x ∷ xs) = ap (λ b. not (p x) && b) (none-passes p xs) ∙ here (p x) (list_any p xs)
+  where
+    here : (a b : Bool) → (not a && not b) ≡ not (a || b)
+    here true b = refl
+    here false b = refl
+
+-- ---- a loop over what holds lists
+module _ {A B : Type 0} (q : B → Bool) (f : A → List B) (xs : List A) (i : ℕ) where
+  -- one item fails, and so the lists of all
+  pub stops : (x : A) (r : Bool) → i < length xs → x ≡ get_or xs i x → r ≡ list_all q (f x) → r ≡ false → false ≡ list_all q (flat_map f xs)
+  stops x r below item e h =
+      sym (
+        all-of-lists q f xs
+        ∙ list_all_at (λ y. list_all q (f y)) xs i x below (ap (λ y. list_all q (f y)) (sym item) ∙ sym e ∙ h)
+      )
+
+  -- one item more passes
+  pub goes-on : (x : A) (r : Bool) → i < length xs → x ≡ get_or xs i x → r ≡ list_all q (f x) → r ≡ true
+      → list_all q (flat_map f (take i xs)) ≡ true → list_all q (flat_map f (take (i + 1) xs)) ≡ true
+  goes-on x r below item e h before =
+      all-of-lists q f (take (i + 1) xs) ∙ list_all_more (λ y. list_all q (f y)) xs i x below
+      ∙ ap (λ b. b && list_all q (f (get_or xs i x))) (sym (all-of-lists q f (take i xs)) ∙ before)
+      ∙ ap (λ y. list_all q (f y)) (sym item) ∙ sym e ∙ h

@@ -1,8 +1,10 @@
 //! Limits of types, of maps and of the nesting of regions.
 
-ghost use Rattle.std.specs.Prelude.{◌≡◌, ◌+◌, ◌-◌, ◌^◌, ◌||◌, ◌==◌, length, min, nat_le};
+ghost use Rattle.std.specs.Prelude.{◌≡◌, ◌+◌, ◌-◌, ◌^◌, ◌&&◌, ◌||◌, ◌==◌, min, nat_le};
+ghost use Rattle.std.specs.List.{list_all};
 ghost use Rattle.av_shapes.specs.Shape.{product};
 ghost use Rattle.av_types.specs.Texts.{is_within_limits};
+ghost use Rattle.av_rules.specs.Agreement.{if_known, results_known, types_written};
 ghost use Rattle.av_rules.specs.Limits.{has_room, is_limited, is_within, most_regions};
 ghost use Rattle.av_rules.specs.Properties.{is_few};
 ghost use Rattle.av_rules.specs.Typing.{result_types};
@@ -13,7 +15,7 @@ use av_rules::Mode;
 use av_signatures::Signature;
 use av_sites::{ResultTypes, SizesView, TypeView, regions, size_at, size_count};
 use av_tree::{Node, TypeText};
-use av_type_codes::{TextTest, TypeTest, every_result, every_written};
+use av_written::{TextTest, TypeTest, every_result, every_written};
 use av_types::is_within_limits;
 
 /// The greatest number of sizes of a vector type.
@@ -23,6 +25,7 @@ const MAX_VECTOR_RANK: usize = 3;
 const MAX_LANES: u128 = 256;
 
 /// That a type is within its limits as it is written.
+#[derive(Clone, Copy)]
 struct WithinLimits;
 
 impl TextTest for WithinLimits {
@@ -34,6 +37,7 @@ impl TextTest for WithinLimits {
 }
 
 /// That a type is within its limits, which may not be written.
+#[derive(Clone, Copy)]
 struct Limited;
 
 impl TypeTest for Limited {
@@ -61,10 +65,19 @@ pub fn is_within(
         → result ≡ is_within (row_with name row.now) (record site { node = node.now; depth = depth; mode = mode.now })
     }
 {
-    every_written(&WithinLimits, row, node)
-        && every_result(&Limited, results)
-        && few
-        && has_room(regions(node).len(), depth, mode)
+    types_are_within(row, node, results) && (few && has_room(regions(node).len(), depth, mode))
+}
+
+// Whether the types at an operation are within their limits, those that are written and those of its results.
+fn types_are_within(row: &Signature, node: &Node, results: ResultTypes) -> bool
+    ensures {
+        (name : _) (site : _)
+        → result_types (row_with name row.now) (record site { node = node.now }) ≡ results_seen results.entry
+        → result ≡ (list_all is_within_limits (types_written (row_with name row.now) (record site { node = node.now }))
+            && list_all (if_known is_limited) (results_known (row_with name row.now) (record site { node = node.now })))
+    }
+{
+    every_written(&WithinLimits, row, node) && every_result(&Limited, results)
 }
 
 // Whether so many regions may stand at a depth.

@@ -1,14 +1,18 @@
 //! Where an operation may stand, and which operations and types a mode takes.
 
-ghost use Rattle.std.specs.Prelude.{◌≡◌, ◌||◌, if◌then◌else◌, not, option_map};
-ghost use Rattle.std.specs.List.{list_any};
+ghost use Rattle.std.specs.Prelude.{◌≡◌, ◌&&◌, ◌||◌, true, false, if◌then◌else◌, codes, not, option_map};
+ghost use Rattle.std.specs.List.{list_all, list_any};
+ghost use Rattle.std.specs.Option.{option_and_then, option_map_or};
 ghost use Rattle.std.specs.Str.{bytes_eq};
 ghost use Rattle.av_rules.specs.declared.mode.Mode.TheVariants.{Run};
+ghost use Rattle.av_rules.specs.Agreement.{if_known, results_known, types_written};
+ghost use Rattle.av_rules.specs.Entries.{entry_of, function_of};
 ghost use Rattle.av_rules.specs.Limits.{has_function_types, has_plain_types, is_memref_text, is_trailed, may_stand, may_stand_in, takes_operation, takes_result, takes_type};
 ghost use Rattle.av_rules.specs.Rows.{is_of_scalar_mode, is_scalar_level};
 ghost use Rattle.av_rules.specs.Typing.{result_types};
 ghost use Rattle.av_rules.specs.Views.{fields};
 ghost use Rattle.av_types.specs.Texts.{is_trailing, is_vector_text};
+ghost use Rattle.av_signatures.specs.declared.signature.Signature.{Signature};
 ghost use Rattle.av_sites.specs.Parts.{function_seen, holder_with};
 ghost use Rattle.av_sites.specs.Rows.{row_with};
 ghost use Rattle.av_sites.specs.TypeViews.{results_seen, type_seen};
@@ -18,13 +22,14 @@ use av_dialects::{Mode as Level, ROWS, Row};
 use av_rules::Mode;
 use av_signatures::Signature;
 use av_sites::{
-    FunctionView, Holder, ResultTypes, TypeView, is_function, is_module, name, rank_of, is_vector,
+    FunctionView, Holder, ResultTypes, TypeView, is_function, is_module, is_vector, name, rank_of,
 };
 use av_tree::{Node, TypeText};
-use av_type_codes::{TextTest, TypeTest, every_argument, every_result, every_written};
+use av_written::{TextTest, TypeTest, every_argument, every_result, every_written};
 use av_types::{is_trailing, is_vector_text};
 
 /// That a mode takes a type.
+#[derive(Clone, Copy)]
 struct InMode<'m>(&'m Mode);
 
 impl<'m> TextTest for InMode<'m> {
@@ -44,6 +49,7 @@ impl<'m> TypeTest for InMode<'m> {
 }
 
 /// That a type isn't that of vectors.
+#[derive(Clone, Copy)]
 struct NoVector;
 
 impl TextTest for NoVector {
@@ -55,6 +61,7 @@ impl TextTest for NoVector {
 }
 
 /// That only the last dimension of a type is scalable.
+#[derive(Clone, Copy)]
 struct Trailing;
 
 impl TextTest for Trailing {
@@ -86,11 +93,21 @@ pub fn may_stand(
         → result ≡ may_stand (row_with (fields node.now).name row.now) (record site { node = node.now; holder = option_map (holder_with own) holder.entry; mode = mode.now })
     }
 {
+    is_taken(row, node, results, mode) && (may_stand_in(row, holder) && has_function_types(row, node))
+}
+
+// Whether the mode takes the operation and all types at it.
+fn is_taken(row: &Signature, node: &Node, results: ResultTypes, mode: &Mode) -> bool
+    ensures {
+        (site : _)
+        → result_types (row_with (fields node.now).name row.now) (record site { node = node.now }) ≡ results_seen results.entry
+        → result ≡ (takes_operation mode.now (row_with (fields node.now).name row.now)
+            && list_all (takes_type mode.now) (types_written (row_with (fields node.now).name row.now) (record site { node = node.now }))
+            && list_all (if_known (takes_result mode.now)) (results_known (row_with (fields node.now).name row.now) (record site { node = node.now })))
+    }
+{
     takes_operation(mode, name(node))
-        && every_written(&InMode(mode), row, node)
-        && every_result(&InMode(mode), results)
-        && may_stand_in(row, holder)
-        && has_function_types(row, node)
+        && (every_written(&InMode(mode), row, node) && every_result(&InMode(mode), results))
 }
 
 fn takes_operation(mode: &Mode, name: &[u8]) -> bool
@@ -186,12 +203,23 @@ fn has_plain_function(node: &Node) -> bool
 fn has_plain_types(function: FunctionView) -> bool
     ensures { result ≡ has_plain_types (function_seen function.entry) }
 {
-    !function.inputs.iter().any(|ty| is_vector_text(ty))
-        && !function.results.iter().any(|ty| is_vector_text(ty) || is_memref_text(ty))
+    !has_vector(function.inputs) && !has_other_than_scalars(function.results)
 }
 
-fn is_memref_text(ty: &TypeText) -> bool
-    ensures { result ≡ is_memref_text ty.now }
+fn has_vector(texts: &[TypeText]) -> bool
+    ensures { result ≡ list_any is_vector_text texts.now }
 {
-    matches!(ty, TypeText::MemRef { .. })
+    texts.iter().any(|text| is_vector_text(text))
+}
+
+fn has_other_than_scalars(texts: &[TypeText]) -> bool
+    ensures { result ≡ list_any (λ t. is_vector_text t || is_memref_text t) texts.now }
+{
+    texts.iter().any(|text| is_aggregate(text))
+}
+
+fn is_aggregate(text: &TypeText) -> bool
+    ensures { result ≡ (is_vector_text text.now || is_memref_text text.now) }
+{
+    is_vector_text(text) || matches!(text, TypeText::MemRef { .. })
 }

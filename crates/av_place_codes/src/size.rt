@@ -1,10 +1,10 @@
 //! The size of a module: its operations times the lanes of its types.
 
-ghost use Rattle.std.specs.Prelude.{◌≡◌, ◌*◌, ◌-◌, ◌^◌, [], map, min};
-ghost use Rattle.std.specs.List.{flat_map, list_all};
+ghost use Rattle.std.specs.Prelude.{◌≡◌, ◌*◌, [], flat_map, nat_le};
+ghost use Rattle.std.specs.List.{list_all};
 ghost use Rattle.av_shapes.specs.Shape.{product};
-ghost use Rattle.av_rules.specs.Limits.{counted, is_small, lanes_of, unknown_row};
-ghost use Rattle.av_rules.specs.Sites.{sites};
+ghost use Rattle.av_rules.specs.Limits.{is_small, unknown_row};
+ghost use Rattle.av_rules.specs.Sites.{operations_in, sites};
 ghost use Rattle.av_sites.specs.Rows.{row_with};
 ghost use Rattle.av_place_codes.specs.Trees.{all_nodes, is_small_with_lanes, leave_room, leaves_room, nodes_within, types_at};
 
@@ -16,7 +16,7 @@ use av_shapes::Shape;
 use av_signatures::{Count, Mark, Role, Signature, Source};
 use av_sites::{SizesView, name, signature_named};
 use av_tree::{Body, Node, Tree, TypeText};
-use av_type_codes::{TextTest, every_written};
+use av_written::{TextTest, every_written};
 
 /// Whether the operations of a tree times the lanes are at most 2^19: those of the shape, or the most of a type.
 pub fn is_small(tree: &Tree, mode: &Mode) -> bool
@@ -76,6 +76,7 @@ fn leave_room(operations: u128, nodes: &[Node]) -> bool
 }
 
 /// That so many operations times the lanes of a type aren't too many.
+#[derive(Clone, Copy)]
 struct Room {
     operations: u128,
 }
