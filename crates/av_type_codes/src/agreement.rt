@@ -18,9 +18,8 @@ use super::classes::{is_index_type, is_of};
 use super::pairs::are_pair;
 use super::regions::{hands_on_types, regions_agree};
 use super::relations::same_if_known;
-use super::results::{IsPlain, IsValueType, every_result};
+use super::tests::{IsPlain, IsType, IsValueType};
 use super::values::value_agrees;
-use super::written::{IsType, every_written};
 use av_ir::Ty;
 use av_signatures::{Class, Demand, Place, Signature};
 use av_sites::{
@@ -28,6 +27,7 @@ use av_sites::{
     type_at, view_of,
 };
 use av_tree::{Node, TypeText};
+use av_written::{every_result, every_written};
 
 /// Whether the types of an operation agree, whose operands and results have these types.
 pub fn types_agree(

@@ -10,14 +10,11 @@ mod pairs;
 mod positions;
 mod regions;
 mod relations;
-mod results;
+mod tests;
 mod values;
-mod written;
 
 pub use agreement::types_agree;
 pub use classes::is_of;
 pub use constants::values_fit;
 pub use pairs::are_pair;
 pub use relations::{same_elements, same_if_known, same_sizes, same_type, stretches_to};
-pub use results::{TypeTest, every_result};
-pub use written::{IsType, TextTest, every_argument, every_in, every_written};

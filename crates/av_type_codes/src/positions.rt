@@ -1,6 +1,6 @@
 //! Positions that are within their vector, and what is picked from the lanes of two.
 
-ghost use Rattle.std.specs.Prelude.{◌≡◌, ◌+◌, ◌-◌, ◌^◌, min, option_map, sum, true};
+ghost use Rattle.std.specs.Prelude.{◌≡◌, ℕ, ◌+◌, ◌-◌, ◌^◌, [], min, option_map, sum, true, unwrap_or};
 ghost use Rattle.std.specs.List.{list_all};
 ghost use Rattle.std.specs.Option.{option_map_or};
 ghost use Rattle.av_rules.specs.Constants.{are_below, is_pick, sizes_of};
@@ -16,11 +16,24 @@ pub(crate) fn is_within(numbers: Option<&[i128]>, ty: Option<TypeView>) -> bool
     }
 {
     match numbers {
-        Some(numbers) => match ty {
-            Some(TypeView::Vector { sizes, .. }) => are_below(numbers, sizes),
-            _ => true,
+        Some(numbers) => match sizes_of(ty) {
+            Some(sizes) => are_below(numbers, sizes),
+            None => true,
         },
         None => true,
+    }
+}
+
+// The sizes of a vector.
+fn sizes_of(ty: Option<TypeView>) -> Option<SizesView>
+    ensures { unwrap_or (option_map sizes_seen result) [] ≡ sizes_of (option_map type_seen ty.entry) }
+{
+    match ty {
+        Some(ty) => match ty {
+            TypeView::Vector { sizes, .. } => Some(sizes),
+            _ => None,
+        },
+        None => None,
     }
 }
 
@@ -38,7 +51,7 @@ fn are_below(numbers: &[i128], sizes: SizesView) -> bool
 
 // Whether a number is from 0 on and below another one.
 fn is_below(number: i128, most: u128) -> bool
-    ensures { result ≡ is_pick most number }
+    ensures { (total : ℕ) → most ≡ min total (2 ^ 128 - 1) → result ≡ is_pick total number }
 {
     0 <= number && (number as u128) < most
 }
@@ -56,18 +69,30 @@ pub(crate) fn are_picks(
 {
     let lanes = lanes_of(first).saturating_add(lanes_of(second));
     match numbers {
-        Some(numbers) => numbers.iter().all(|number| is_below(*number, lanes)),
+        Some(numbers) => all_below(numbers, lanes),
         None => true,
     }
+}
+
+// Whether all numbers are from 0 on and below another one, or below what that is the greatest number for.
+fn all_below(numbers: &[i128], most: u128) -> bool
+    ensures { (total : ℕ) → most ≡ min total (2 ^ 128 - 1) → result ≡ list_all (is_pick total) numbers.now }
+{
+    for number in numbers {
+        if !is_below(*number, most) {
+            return false;
+        }
+    }
+    true
 }
 
 // The sum of the sizes of a vector, or the greatest number.
 fn lanes_of(ty: Option<TypeView>) -> u128
     ensures { result ≡ min (sum (sizes_of (option_map type_seen ty.entry))) (2 ^ 128 - 1) }
 {
-    match ty {
-        Some(TypeView::Vector { sizes, .. }) => sum_of(sizes),
-        _ => 0,
+    match sizes_of(ty) {
+        Some(sizes) => sum_of(sizes),
+        None => 0,
     }
 }
 

@@ -1,6 +1,6 @@
 //! The types that stand at an operation, and a question that is asked of each.
 
-ghost use Rattle.std.specs.Prelude.{◌≡◌, Bool, flat_map, map, not};
+ghost use Rattle.std.specs.Prelude.{◌≡◌, ◌||◌, Bool, flat_map, map, not};
 ghost use Rattle.std.specs.List.{filter, list_all};
 ghost use Rattle.std.specs.Option.{option_to_list};
 ghost use Rattle.av_rules.specs.Agreement.{parts_of_type, types_in, types_of_arguments, types_written};
@@ -8,14 +8,12 @@ ghost use Rattle.av_rules.specs.Entries.{is_dropped, kept};
 ghost use Rattle.av_rules.specs.Views.{inside};
 ghost use Rattle.av_sites.specs.Rows.{row_with};
 ghost use Rattle.av_tree.specs.declared.written.TypeText.{TypeText};
-ghost use Rattle.av_types.specs.Texts.{is_type};
 
 use av_signatures::Signature;
 use av_sites::{
     args, attrs, function_in, in_types, is_dropped, out_types, properties, regions,
 };
 use av_tree::{Attr, Body, BodyArg, Named, Node, TypeText};
-use av_types::is_type;
 
 /// A question that is asked of written types.
 pub trait TextTest {
@@ -26,18 +24,6 @@ pub trait TextTest {
         ensures { result ≡ passes self.now text.now };
 }
 
-/// Whether some value has the type.
-#[derive(Clone, Copy)]
-pub struct IsType;
-
-impl TextTest for IsType {
-    ghost passes = { λ test. is_type };
-
-    fn passes(&self, text: &TypeText) -> bool {
-        is_type(text)
-    }
-}
-
 /// Whether all types that stand at an operation pass, but those in what is dropped.
 pub fn every_written<T: TextTest>(test: &T, row: &Signature, node: &Node) -> bool
     ensures {
@@ -45,10 +31,13 @@ pub fn every_written<T: TextTest>(test: &T, row: &Signature, node: &Node) -> boo
         → result ≡ list_all (T.passes test.now) (types_written (row_with own row.now) (record site { node = node.now }))
     }
 {
-    every_given(test, in_types(node))
-        && every_given(test, out_types(node))
-        && every_argument(test, node)
-        && every_entry(test, row, node)
+    if !every_given(test, in_types(node)) {
+        return false;
+    }
+    if !every_given(test, out_types(node)) {
+        return false;
+    }
+    every_argument(test, node) && every_entry(test, row, node)
 }
 
 // Whether those pass that are there.
@@ -119,11 +108,20 @@ fn every_kept<T: TextTest>(test: &T, row: &Signature, entries: &[Named]) -> bool
     }
 {
     for entry in entries {
-        if !is_dropped(row, entry.name.as_slice()) && !every_in(test, &entry.value) {
+        if !passes_entry(test, row, entry) {
             return false;
         }
     }
     true
+}
+
+// Whether an entry is dropped, or all types in it pass.
+fn passes_entry<T: TextTest>(test: &T, row: &Signature, entry: &Named) -> bool
+    ensures {
+        (own : _) → result ≡ (is_dropped (row_with own row.now) entry.now.name || list_all (T.passes test.now) (types_in entry.now.value))
+    }
+{
+    is_dropped(row, entry.name.as_slice()) || every_in(test, &entry.value)
 }
 
 /// Whether all types in an attribute pass.

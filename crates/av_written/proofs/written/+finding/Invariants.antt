@@ -2,7 +2,7 @@
 use Rattle.std.proofs.Common.{◌≡◌, drop, flat_map}
 use Rattle.std.specs.List.{list_all}
 use Rattle.av_rules.specs.Agreement.{types_in}
-use Rattle.av_type_codes.proofs.written.+finding.Given as goal
+use Rattle.av_written.proofs.written.+finding.Given as goal
 
 abbrev pub invariant-every_in_items-loop-item : goal.invariant-every_in_items-loop-item
 invariant-every_in_items-loop-item g l =

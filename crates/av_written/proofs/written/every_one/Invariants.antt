@@ -1,7 +1,7 @@
 -- what is left to ask decides
 use Rattle.std.proofs.Common.{◌≡◌, drop, map}
 use Rattle.std.specs.List.{list_all}
-use Rattle.av_type_codes.proofs.written.every_one.Given as goal
+use Rattle.av_written.proofs.written.every_one.Given as goal
 
 abbrev pub invariant-loop-arg : goal.invariant-loop-arg
 invariant-loop-arg g l =

@@ -4,7 +4,7 @@ use Rattle.std.specs.Prelude.{unwrap_or}
 use Rattle.std.specs.List.{list_all}
 use Rattle.av_rules.specs.Agreement.{if_known}
 use Rattle.av_sites.specs.TypeViews.{results_seen}
-use Rattle.av_type_codes.proofs.results.every_below.Given as goal
+use Rattle.av_written.proofs.results.every_below.Given as goal
 
 abbrev pub invariant-loop-at : goal.invariant-loop-at
 invariant-loop-at g l =

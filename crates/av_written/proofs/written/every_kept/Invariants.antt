@@ -4,7 +4,7 @@ use Rattle.std.specs.List.{filter, list_all}
 use Rattle.av_rules.specs.Agreement.{types_in}
 use Rattle.av_rules.specs.Entries.{is_dropped}
 use Rattle.av_sites.specs.Rows.{row_with}
-use Rattle.av_type_codes.proofs.written.every_kept.Given as goal
+use Rattle.av_written.proofs.written.every_kept.Given as goal
 
 abbrev pub invariant-loop-entry : goal.invariant-loop-entry
 invariant-loop-entry g l =

@@ -2,7 +2,7 @@
 use Rattle.std.proofs.Common.{◌≡◌, drop, flat_map, map}
 use Rattle.std.specs.List.{list_all}
 use Rattle.av_rules.specs.Views.{inside}
-use Rattle.av_type_codes.proofs.written.every_argument_in.Given as goal
+use Rattle.av_written.proofs.written.every_argument_in.Given as goal
 
 abbrev pub invariant-loop-body : goal.invariant-loop-body
 invariant-loop-body g l =
