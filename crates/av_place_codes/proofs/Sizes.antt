@@ -78,10 +78,10 @@ pub small-in-vector-mode : AllSitesLaw → (tree : Tree) (mode : Mode) → is_sm
 small-in-vector-mode law tree mode =
     let all = sites tree mode in
     sym (
-      ap (λ n. nat_le (n * most_lanes all) 0x8_0000) (law tree mode)
-      ∙ of-greatest (operations_in tree.root) 0x8_0000 (flat_map (λ site. map lanes_of (types_written (unwrap_or (site_row site) unknown_row) site)) all)
-      ∙ ap (λ b. nat_le (operations_in tree.root) 0x8_0000 && b) (of-sites (operations_in tree.root) 0x8_0000 all)
-      ∙ ap (λ nodes. nat_le (operations_in tree.root) 0x8_0000 && leave_room (operations_in tree.root) nodes) (walk-law tree mode)
+    ap (λ n. nat_le (n * most_lanes all) 0x8_0000) (law tree mode)
+    ∙ of-greatest (operations_in tree.root) 0x8_0000 (flat_map (λ site. map lanes_of (types_written (unwrap_or (site_row site) unknown_row) site)) all)
+    ∙ ap (λ b. nat_le (operations_in tree.root) 0x8_0000 && b) (of-sites (operations_in tree.root) 0x8_0000 all)
+    ∙ ap (λ nodes. nat_le (operations_in tree.root) 0x8_0000 && leave_room (operations_in tree.root) nodes) (walk-law tree mode)
     )
 
 -- ---- products up to a greatest number
@@ -111,8 +111,8 @@ module _ {A : Type 0} (f : A → ℕ) (xs : List A) (i : ℕ) where
       → lanes ≡ min (product (map f (take i xs))) most → new ≡ min (product (map f (take (i + 1) xs))) most
   product-more d lanes each new most below e n l =
       let split : product (map f (take (i + 1) xs)) ≡ product (map f (take i xs)) * each =
-          ap (λ ys. product (map f ys)) (take_more xs i d below) ∙ ap product (map-append f (take i xs) (get_or xs i d ∷ []))
-          ∙ product-append (map f (take i xs)) (f (get_or xs i d)) ∙ ap (λ k. product (map f (take i xs)) * k) (sym e)
+      ap (λ ys. product (map f ys)) (take_more xs i d below) ∙ ap product (map-append f (take i xs) (get_or xs i d ∷ []))
+      ∙ product-append (map f (take i xs)) (f (get_or xs i d)) ∙ ap (λ k. product (map f (take i xs)) * k) (sym e)
       in n ∙ ap (λ k. min (k * each) most) l ∙ cut-twice (product (map f (take i xs))) each most ∙ ap (λ k. min k most) (sym split)
 
 -- a product of cut numbers is small where that of the numbers is
@@ -127,7 +127,7 @@ pub product-next : (xs : List ℕ) (i : ℕ) (found : Option ℕ) (lanes each ne
 product-next xs i found lanes each new most below f e n l =
     let item : each ≡ get_or xs i 0 = e ∙ ap (λ o. unwrap_or o 1) (f ∙ slice_get-get_or xs i 0 below) in
     let split : product (take (i + 1) xs) ≡ product (take i xs) * each =
-        ap product (take_more xs i 0 below) ∙ product-append (take i xs) (get_or xs i 0) ∙ ap (λ k. product (take i xs) * k) (sym item)
+    ap product (take_more xs i 0 below) ∙ product-append (take i xs) (get_or xs i 0) ∙ ap (λ k. product (take i xs) * k) (sym item)
     in n ∙ ap (λ k. min (k * each) most) l ∙ cut-twice (product (take i xs)) each most ∙ ap (λ k. min k most) (sym split)
 
 -- ---- none passes
@@ -145,8 +145,8 @@ module _ {A B : Type 0} (q : B → Bool) (f : A → List B) (xs : List A) (i : �
   pub stops : (x : A) (r : Bool) → i < length xs → x ≡ get_or xs i x → r ≡ list_all q (f x) → r ≡ false → false ≡ list_all q (flat_map f xs)
   stops x r below item e h =
       sym (
-        all-of-lists q f xs
-        ∙ list_all_at (λ y. list_all q (f y)) xs i x below (ap (λ y. list_all q (f y)) (sym item) ∙ sym e ∙ h)
+      all-of-lists q f xs
+      ∙ list_all_at (λ y. list_all q (f y)) xs i x below (ap (λ y. list_all q (f y)) (sym item) ∙ sym e ∙ h)
       )
 
   -- one item more passes

@@ -75,8 +75,8 @@ module _ {A : Type 0} (f : A → ℕ) (xs : List A) (i : ℕ) where
       → count ≡ min (sum (map f (take i xs))) most → new ≡ min (sum (map f (take (i + 1) xs))) most
   count-more x count each new most below item e n c =
       let split : sum (map f (take (i + 1) xs)) ≡ sum (map f (take i xs)) + (0 + f x) =
-          ap (λ ys. sum (map f ys)) (take_more xs i x below) ∙ ap sum (map-append f (take i xs) (get_or xs i x ∷ []))
-          ∙ sum_by-append (λ n. n) (map f (take i xs)) (f (get_or xs i x) ∷ []) ∙ ap (λ y. sum (map f (take i xs)) + (0 + f y)) (sym item)
+      ap (λ ys. sum (map f ys)) (take_more xs i x below) ∙ ap sum (map-append f (take i xs) (get_or xs i x ∷ []))
+      ∙ sum_by-append (λ n. n) (map f (take i xs)) (f (get_or xs i x) ∷ []) ∙ ap (λ y. sum (map f (take i xs)) + (0 + f y)) (sym item)
       in omega (arith, split, e, n, c)
 
 pub one-more : (result within all many most : ℕ) → result ≡ min (within + 1) most → within ≡ min many most → all ≡ 1 + many → result ≡ min all most

@@ -13,10 +13,8 @@ use av_tree::{Node, TypeText};
 
 /// Whether an operation has as many operands as it has to have, and, where it ends a region, as many as are handed on.
 pub fn has_operands(row: &Signature, node: &Node, is_last: bool, holder: Option<Holder>) -> bool
-    ensures {
-        (name own : _) (site : _)
-        → result ≡ has_operands (row_with name row.now) (record site { node = node.now; is_last = is_last; holder = option_map (holder_with own) holder.entry })
-    }
+    ensures { (name own : _) (site : _)
+        → result ≡ has_operands (row_with name row.now) (record site { node = node.now; is_last = is_last; holder = option_map (holder_with own) holder.entry }) }
 {
     counts(node, row.operands) && hands_on_enough(row, node, is_last, holder)
 }
@@ -84,10 +82,8 @@ fn type_in(types: &[Option<TypeText>], k: usize) -> Option<&TypeText>
 
 // A terminator in its place has as many operands as are handed on, where that is known.
 fn hands_on_enough(row: &Signature, node: &Node, is_last: bool, holder: Option<Holder>) -> bool
-    ensures {
-        (name own : _) (site : _)
-        → result ≡ hands_on_enough (row_with name row.now) (record site { node = node.now; is_last = is_last; holder = option_map (holder_with own) holder.entry })
-    }
+    ensures { (name own : _) (site : _)
+        → result ≡ hands_on_enough (row_with name row.now) (record site { node = node.now; is_last = is_last; holder = option_map (holder_with own) holder.entry }) }
 {
     !is_in_place(row, is_last, holder) || takes_over(operands(node).len(), holder)
 }

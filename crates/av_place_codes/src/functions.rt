@@ -25,10 +25,8 @@ pub fn function_name(node: &Node) -> Option<&[u8]>
 
 /// Whether an operation is no function of a name that a function before has.
 pub fn is_new_function(row: &Signature, is_earlier: bool) -> bool
-    ensures {
-        (own : _) (site : _) → option_map_or (is_among site.earlier) (function_name site.node) false ≡ is_earlier
-        → result ≡ is_new_function (row_with own row.now) site
-    }
+    ensures { (own : _) (site : _) → option_map_or (is_among site.earlier) (function_name site.node) false ≡ is_earlier
+        → result ≡ is_new_function (row_with own row.now) site }
 {
     !is_function(row.role) || !is_earlier
 }

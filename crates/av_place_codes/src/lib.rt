@@ -16,7 +16,7 @@ mod size;
 
 pub use counts::has_operands;
 pub use functions::{function_name, is_new_function};
-pub use laws::walk_is_in_order;
+pub use laws::{some_sizes, walk_is_in_order};
 pub use limits::is_within;
 pub use names::{count_in, names_in};
 pub use places::{is_trailed, may_stand};

@@ -15,8 +15,8 @@ use av_rules::Mode;
 use av_signatures::Signature;
 use av_sites::{ResultTypes, SizesView, TypeView, regions, size_at, size_count};
 use av_tree::{Node, TypeText};
-use av_written::{TextTest, TypeTest, every_result, every_written};
 use av_types::is_within_limits;
+use av_written::{TextTest, TypeTest, every_result, every_written};
 
 /// The greatest number of sizes of a vector type.
 const MAX_VECTOR_RANK: usize = 3;
@@ -58,24 +58,20 @@ pub fn is_within(
     depth: usize,
     mode: &Mode,
 ) -> bool
-    ensures {
-        (name : _) (site : _)
+    ensures { (name : _) (site : _)
         → result_types (row_with name row.now) (record site { node = node.now }) ≡ results_seen results.entry
         → is_few (row_with name row.now) (record site { node = node.now }) ≡ few
-        → result ≡ is_within (row_with name row.now) (record site { node = node.now; depth = depth; mode = mode.now })
-    }
+        → result ≡ is_within (row_with name row.now) (record site { node = node.now; depth = depth; mode = mode.now }) }
 {
     types_are_within(row, node, results) && (few && has_room(regions(node).len(), depth, mode))
 }
 
 // Whether the types at an operation are within their limits, those that are written and those of its results.
 fn types_are_within(row: &Signature, node: &Node, results: ResultTypes) -> bool
-    ensures {
-        (name : _) (site : _)
+    ensures { (name : _) (site : _)
         → result_types (row_with name row.now) (record site { node = node.now }) ≡ results_seen results.entry
         → result ≡ (list_all is_within_limits (types_written (row_with name row.now) (record site { node = node.now }))
-            && list_all (if_known is_limited) (results_known (row_with name row.now) (record site { node = node.now })))
-    }
+        && list_all (if_known is_limited) (results_known (row_with name row.now) (record site { node = node.now }))) }
 {
     every_written(&WithinLimits, row, node) && every_result(&Limited, results)
 }

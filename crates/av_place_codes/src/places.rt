@@ -25,8 +25,8 @@ use av_sites::{
     FunctionView, Holder, ResultTypes, TypeView, is_function, is_module, is_vector, name, rank_of,
 };
 use av_tree::{Node, TypeText};
-use av_written::{TextTest, TypeTest, every_argument, every_result, every_written};
 use av_types::{is_trailing, is_vector_text};
+use av_written::{TextTest, TypeTest, every_argument, every_result, every_written};
 
 /// That a mode takes a type.
 #[derive(Clone, Copy)]
@@ -87,24 +87,21 @@ pub fn may_stand(
     holder: Option<Holder>,
     mode: &Mode,
 ) -> bool
-    ensures {
-        (own : _) (site : _)
+    ensures { (own : _) (site : _)
         → result_types (row_with (fields node.now).name row.now) (record site { node = node.now }) ≡ results_seen results.entry
-        → result ≡ may_stand (row_with (fields node.now).name row.now) (record site { node = node.now; holder = option_map (holder_with own) holder.entry; mode = mode.now })
-    }
+        → result ≡ may_stand (row_with (fields node.now).name row.now) (record site { node = node.now; holder = option_map (holder_with own) holder.entry; mode = mode.now }) }
 {
-    is_taken(row, node, results, mode) && (may_stand_in(row, holder) && has_function_types(row, node))
+    is_taken(row, node, results, mode)
+        && (may_stand_in(row, holder) && has_function_types(row, node))
 }
 
 // Whether the mode takes the operation and all types at it.
 fn is_taken(row: &Signature, node: &Node, results: ResultTypes, mode: &Mode) -> bool
-    ensures {
-        (site : _)
+    ensures { (site : _)
         → result_types (row_with (fields node.now).name row.now) (record site { node = node.now }) ≡ results_seen results.entry
         → result ≡ (takes_operation mode.now (row_with (fields node.now).name row.now)
-            && list_all (takes_type mode.now) (types_written (row_with (fields node.now).name row.now) (record site { node = node.now }))
-            && list_all (if_known (takes_result mode.now)) (results_known (row_with (fields node.now).name row.now) (record site { node = node.now })))
-    }
+        && list_all (takes_type mode.now) (types_written (row_with (fields node.now).name row.now) (record site { node = node.now }))
+        && list_all (if_known (takes_result mode.now)) (results_known (row_with (fields node.now).name row.now) (record site { node = node.now }))) }
 {
     takes_operation(mode, name(node))
         && (every_written(&InMode(mode), row, node) && every_result(&InMode(mode), results))

@@ -19,17 +19,14 @@ use super::functions::function_type;
 use av_ir::Ty;
 use av_signatures::{Arguments, Ending, Role, Signature};
 use av_sites::{
-    Holder, args, carried_types, is_in_place, name, nodes, regions,
-    same_ending, signature_named,
+    Holder, args, carried_types, is_in_place, name, nodes, regions, same_ending, signature_named,
 };
 use av_tree::{Body, Node};
 
 /// Whether each region of an operation ends as it has to, and the operation, if it is a terminator, stands where it ends something.
 pub fn ends_well(row: &Signature, node: &Node, is_last: bool, holder: Option<Holder>) -> bool
-    ensures {
-        (name own : _) (site : _)
-        → result ≡ ends_well (row_with name row.now) (record site { node = node.now; is_last = is_last; holder = option_map (holder_with own) holder.entry })
-    }
+    ensures { (name own : _) (site : _)
+        → result ≡ ends_well (row_with name row.now) (record site { node = node.now; is_last = is_last; holder = option_map (holder_with own) holder.entry }) }
 {
     regions_end(node, row.role) && (!is_end(row.role) || is_in_place(row, is_last, holder))
 }
@@ -84,10 +81,8 @@ fn is_end_of(ending: Ending, role: Role) -> bool
 
 /// Whether an operation whose operands have these types has as many regions as it has to have, each with as many arguments.
 pub fn has_regions(row: &Signature, node: &Node, types: &[Option<Ty>]) -> bool
-    ensures {
-        (name : _) (site : _) → operand_types (record site { node = node.now }) ≡ types.now
-        → result ≡ has_regions (row_with name row.now) (record site { node = node.now })
-    }
+    ensures { (name : _) (site : _) → operand_types (record site { node = node.now }) ≡ types.now
+        → result ≡ has_regions (row_with name row.now) (record site { node = node.now }) }
 {
     regions(node).len() == region_count(row.role)
         && take_so_many(regions(node), argument_count(row, node, types))
@@ -105,10 +100,8 @@ fn region_count(role: Role) -> usize
 
 // How many arguments each region has to have, where that is known.
 fn argument_count(row: &Signature, node: &Node, types: &[Option<Ty>]) -> Option<usize>
-    ensures {
-        (name : _) (site : _) → operand_types (record site { node = node.now }) ≡ types.now
-        → result ≡ option_map (λ list. length list) (argument_types (row_with name row.now) (record site { node = node.now }) row.now.role)
-    }
+    ensures { (name : _) (site : _) → operand_types (record site { node = node.now }) ≡ types.now
+        → result ≡ option_map (λ list. length list) (argument_types (row_with name row.now) (record site { node = node.now }) row.now.role) }
 {
     match row.role {
         Role::Holds(_, arguments, _) => count_of(arguments, row, node, types),
@@ -122,10 +115,8 @@ fn count_of(
     node: &Node,
     types: &[Option<Ty>],
 ) -> Option<usize>
-    ensures {
-        (name : _) (site : _) → operand_types (record site { node = node.now }) ≡ types.now → (count : _) (ending : _)
-        → result ≡ option_map (λ list. length list) (argument_types (row_with name row.now) (record site { node = node.now }) (Holds count arguments ending))
-    }
+    ensures { (name : _) (site : _) → operand_types (record site { node = node.now }) ≡ types.now → (count : _) (ending : _)
+        → result ≡ option_map (λ list. length list) (argument_types (row_with name row.now) (record site { node = node.now }) (Holds count arguments ending)) }
 {
     match arguments {
         Arguments::Inputs => input_count(node),
@@ -154,10 +145,8 @@ fn input_count(node: &Node) -> Option<usize>
 }
 
 fn take_so_many(bodies: &[Body], count: Option<usize>) -> bool
-    ensures {
-        (types : Option (List (Option Ty))) → count ≡ option_map (λ list. length list) types
-        → result ≡ list_all (λ body. option_map_or (λ list. length (inside body).args == length list) types true) bodies.now
-    }
+    ensures { (types : Option (List (Option Ty))) → count ≡ option_map (λ list. length list) types
+        → result ≡ list_all (λ body. option_map_or (λ list. length (inside body).args == length list) types true) bodies.now }
 {
     match count {
         Some(count) => take(bodies, count),

@@ -17,19 +17,15 @@ use av_tree::Node;
 
 /// Whether as many results are named as an operation has whose operands have these types, and each name stands for one.
 pub fn has_results(row: &Signature, node: &Node, types: &[Option<Ty>]) -> bool
-    ensures {
-        (name : _) (site : _) → operand_types (record site { node = node.now }) ≡ types.now
-        → result ≡ has_results (row_with name row.now) (record site { node = node.now })
-    }
+    ensures { (name : _) (site : _) → operand_types (record site { node = node.now }) ≡ types.now
+        → result ≡ has_results (row_with name row.now) (record site { node = node.now }) }
 {
     has_count(results(node), count_from(row, node, types)) && name_some(results(node))
 }
 
 fn count_from(row: &Signature, node: &Node, types: &[Option<Ty>]) -> Option<u128>
-    ensures {
-        (name : _) (site : _) → operand_types (record site { node = node.now }) ≡ types.now
-        → result ≡ count_from (row_with name row.now) (record site { node = node.now }) row.now.source
-    }
+    ensures { (name : _) (site : _) → operand_types (record site { node = node.now }) ≡ types.now
+        → result ≡ count_from (row_with name row.now) (record site { node = node.now }) row.now.source }
 {
     match row.source {
         Source::Nothing => Some(0),
