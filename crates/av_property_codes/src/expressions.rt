@@ -2,6 +2,7 @@
 
 ghost use Rattle.std.specs.Prelude.{◌≡◌, IfOk};
 ghost use Rattle.std.specs.List.{list_all};
+ghost use Rattle.av_maps.specs.Asked.{is_affine_map, is_affine_set};
 ghost use Rattle.av_rules.specs.Properties.{is_affine, is_affine_of, is_few, is_few_of};
 ghost use Rattle.av_signatures.specs.Rows.{property};
 ghost use Rattle.av_sites.specs.Rows.{row_with};

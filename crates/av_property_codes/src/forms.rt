@@ -1,13 +1,13 @@
 //! Properties and attributes: which are needed, and what they have to be.
 
-ghost use Rattle.std.specs.Prelude.{◌≡◌, codes, if◌then◌else◌, is_some};
+ghost use Rattle.std.specs.Prelude.{◌≡◌, codes, false, length, if◌then◌else◌, is_some};
 ghost use Rattle.std.specs.List.{list_all, list_any};
 ghost use Rattle.std.specs.Char.{is_ascii_digit};
 ghost use Rattle.std.specs.Str.{bytes_eq};
-ghost use Rattle.std.specs.Option.{option_and_then};
-ghost use Rattle.av_dialects.specs.Rows.{kinds};
-ghost use Rattle.av_signatures.specs.declared.signature.Form.TheVariants.{Symbol};
-ghost use Rattle.av_rules.specs.Entries.{entry_of, has_form, is_constant, is_kind, is_mark_value, is_one_among, is_symbol_byte, is_symbol_text, natural, number_of};
+ghost use Rattle.std.specs.Option.{option_and_then, option_map_or};
+ghost use Rattle.av_dialects.specs.Rows.{kinds, predicates};
+ghost use Rattle.av_rules.specs.Names.{is_among};
+ghost use Rattle.av_rules.specs.Entries.{entry_of, has_form, is_constant, is_kind, is_mark_value, is_one_among, is_symbol_byte, is_symbol_text, natural, number_of, text_of};
 ghost use Rattle.av_rules.specs.Properties.{has_needed};
 ghost use Rattle.av_sites.specs.Rows.{row_with};
 
@@ -44,7 +44,7 @@ pub fn has_form(aliases: &[Alias], form: Form, value: &Attr) -> bool
         Form::Symbol => is_symbol(value),
         Form::FunctionType => function_of(value).is_some(),
         Form::Constant => is_constant(value),
-        Form::Predicate => is_number_below(PREDICATES.len() as u128, value),
+        Form::Predicate => is_number_below(predicate_count(), value),
         Form::Kind => is_kind(value),
         Form::Step => number_in(b"index".as_slice(), value).is_some(),
         Form::Numbers => array_in(b"i64".as_slice(), value).is_some(),
@@ -54,9 +54,15 @@ pub fn has_form(aliases: &[Alias], form: Form, value: &Attr) -> bool
     }
 }
 
+fn predicate_count() -> u128
+    ensures { result ≡ length predicates }
+{
+    PREDICATES.len() as u128
+}
+
 // Whether a value is a text that is spelled as a symbol.
 fn is_symbol(value: &Attr) -> bool
-    ensures { (aliases : _) → result ≡ has_form aliases Symbol value.now }
+    ensures { result ≡ option_map_or is_symbol_text (text_of value.now) false }
 {
     match text_in(value) {
         Some(text) => is_symbol_text(text),
@@ -99,9 +105,15 @@ fn is_known_kind(words: &[Text]) -> bool
     ensures { result ≡ is_one_among kinds words.now }
 {
     match words {
-        [word] => is_word(KINDS, word.as_slice()),
+        [word] => is_kind_word(word.as_slice()),
         _ => false,
     }
+}
+
+fn is_kind_word(word: &[u8]) -> bool
+    ensures { result ≡ is_among kinds word.now }
+{
+    is_word(KINDS, word)
 }
 
 fn is_word(words: &[&str], name: &[u8]) -> bool

@@ -1,22 +1,26 @@
 //! Maps and sets: their arity, and what stands for their parameters.
 
-ghost use Rattle.std.specs.Prelude.{◌≡◌, ◌+◌, ◌==◌, length, map};
+ghost use Rattle.std.specs.Prelude.{◌≡◌, ◌+◌, ◌==◌, ◌&&◌, length, map, option_map};
 ghost use Rattle.std.specs.List.{list_all};
 ghost use Rattle.std.specs.Option.{option_and_then, option_copied};
+ghost use Rattle.av_maps.specs.Asked.{takes};
+ghost use Rattle.av_maps.specs.Roles.{are_in_place};
+ghost use Rattle.av_maps.specs.Written.{map_of};
 ghost use Rattle.av_maps.specs.Names.{map_in, set_in};
 ghost use Rattle.av_rules.specs.Entries.{entry_of};
 ghost use Rattle.av_rules.specs.Places.{operand_types};
-ghost use Rattle.av_rules.specs.Properties.{asks_arity, has_arity, has_arity_of, has_roles, has_roles_of, is_amount, used_by};
+ghost use Rattle.av_rules.specs.Properties.{asks_arity, has_arity, has_arity_of, has_roles, has_roles_of, is_amount, is_short, roles_of, used_by};
 ghost use Rattle.av_rules.specs.Scopes.{role_named};
 ghost use Rattle.av_rules.specs.Views.{fields};
 ghost use Rattle.av_signatures.specs.Rows.{property};
 ghost use Rattle.av_sites.specs.Rows.{row_with};
+ghost use Rattle.av_sites.specs.TypeViews.{type_seen};
 
 use super::operands::{are_parted, parts, used};
 use av_ir::Ty;
 use av_maps::{Role, are_in_place, map_in, set_in};
 use av_signatures::{Amount, Demand, Form, Property, Signature, Uses};
-use av_sites::{entry, numbers_in, operands, rank_of, type_at};
+use av_sites::{TypeView, entry, numbers_in, operands, rank_of, type_at};
 use av_tree::{Alias, MapText, Node, SetText};
 
 /// The map of an entry.
@@ -76,10 +80,7 @@ fn has_arity_of(
 {
     match form {
         Form::Map(uses, amount) => match map_at(node, aliases, label) {
-            Some(map) => {
-                has_parameters(map.dims.len(), map.syms.len(), node, uses)
-                    && is_amount(node, types, amount, map.results.len())
-            }
+            Some(map) => map_fits(node, types, map, uses, amount),
             None => true,
         },
         Form::Set(uses) => match set_at(node, aliases, label) {
@@ -90,12 +91,34 @@ fn has_arity_of(
     }
 }
 
+// Whether a map has a parameter for each operand that it takes, and as many results as there have to be.
+fn map_fits(
+    node: &Node,
+    types: &[Option<Ty>],
+    map: &MapText,
+    uses: Uses,
+    amount: Amount,
+) -> bool
+    ensures {
+        (site : _) → operand_types (record site { node = node.now }) ≡ types.now
+        → result ≡ (takes (map_of map.now) (length (used_by (record site { node = node.now }) uses)) && is_amount (record site { node = node.now }) amount (length map.now.results))
+    }
+{
+    has_parameters(map.dims.len(), map.syms.len(), node, uses)
+        && is_amount(node, types, amount, map.results.len())
+}
+
 // Whether so many dimensions and symbols are as many as the operands that are used.
 fn has_parameters(dims: usize, syms: usize, node: &Node, uses: Uses) -> bool
     ensures { (site : _) → result ≡ dims + syms == length (used_by (record site { node = node.now }) uses) }
 {
-    let operands = used(parts(node), uses, operands(node)).len();
-    dims as u128 + syms as u128 == operands as u128
+    is_sum(dims, syms, used(parts(node), uses, operands(node)).len())
+}
+
+fn is_sum(dims: usize, syms: usize, all: usize) -> bool
+    ensures { result ≡ dims + syms == all }
+{
+    dims as u128 + syms as u128 == all as u128
 }
 
 // Whether so many results are as many as there have to be.
@@ -134,13 +157,19 @@ fn asks_arity(node: &Node, types: &[Option<Ty>], demand: Demand) -> bool
     }
 {
     match demand {
-        Demand::ShortPosition(place) => match numbers_in(node, b"static_position".as_slice()) {
-            Some(numbers) => match type_at(node, types, place) {
-                Some(ty) => numbers.len() <= rank_of(ty),
-                None => true,
-            },
-            None => true,
-        },
+        Demand::ShortPosition(place) => is_short(
+            numbers_in(node, b"static_position".as_slice()),
+            type_at(node, types, place),
+        ),
+        _ => true,
+    }
+}
+
+fn is_short(numbers: Option<&[i128]>, ty: Option<TypeView>) -> bool
+    ensures { result ≡ is_short (option_map (λ list. list.now) numbers.entry) (option_map type_seen ty.entry) }
+{
+    match (numbers, ty) {
+        (Some(numbers), Some(ty)) => numbers.len() <= rank_of(ty),
         _ => true,
     }
 }
@@ -180,13 +209,23 @@ fn has_roles_of(
 {
     match form {
         Form::Map(uses, _) => match map_at(node, aliases, label) {
-            Some(map) => are_in_place(map.dims.len(), used(parts(node), uses, roles)),
+            Some(map) => are_used(node, roles, uses, map.dims.len()),
             None => true,
         },
         Form::Set(uses) => match set_at(node, aliases, label) {
-            Some(set) => are_in_place(set.dims.len(), used(parts(node), uses, roles)),
+            Some(set) => are_used(node, roles, uses, set.dims.len()),
             None => true,
         },
         _ => true,
     }
+}
+
+// Whether the operands that are used may be so many dimensions, and symbols.
+fn are_used(node: &Node, roles: &[Role], uses: Uses, dims: usize) -> bool
+    ensures {
+        (site : _) → map (role_named site.scope) (fields node.now).operands ≡ roles.now
+        → result ≡ are_in_place dims (roles_of (record site { node = node.now }) (used_by (record site { node = node.now }) uses))
+    }
+{
+    are_in_place(dims, used(parts(node), uses, roles))
 }

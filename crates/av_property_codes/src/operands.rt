@@ -1,6 +1,9 @@
 //! Which operands maps and sets take.
 
-ghost use Rattle.std.specs.Prelude.{◌≡◌, ◌+◌, ◌==◌};
+ghost use Rattle.std.specs.Prelude.{◌≡◌, ◌+◌, ◌==◌, false, length};
+ghost use Rattle.std.specs.Option.{option_map_or};
+ghost use Rattle.av_rules.specs.Entries.{segments_of};
+ghost use Rattle.av_rules.specs.Views.{fields};
 ghost use Rattle.av_rules.specs.Properties.{are_parted, parts};
 ghost use Rattle.av_property_codes.specs.Used.{used};
 ghost use Rattle.av_sites.specs.Parts.{segments_read};
@@ -39,11 +42,17 @@ pub(crate) fn used<T>(parts: Segments, uses: Uses, list: &[T]) -> &[T]
 pub(crate) fn are_parted(row: &Signature, node: &Node) -> bool
     ensures { (name : _) (site : _) → result ≡ are_parted (row_with name row.now) (record site { node = node.now }) }
 {
-    !has_segments(row)
-        || match segments_of(node) {
-            Some(parts) => are_together(parts, operands(node).len() as u128),
-            None => false,
-        }
+    !has_segments(row) || are_all(node)
+}
+
+// Whether the parts can be read, and are all operands.
+fn are_all(node: &Node) -> bool
+    ensures { result ≡ option_map_or (λ s. s.lower + s.upper + s.carried == length (fields node.now).operands) (segments_of node.now) false }
+{
+    match segments_of(node) {
+        Some(parts) => are_together(parts, operands(node).len() as u128),
+        None => false,
+    }
 }
 
 fn are_together(parts: Segments, many: u128) -> bool
