@@ -147,7 +147,7 @@ fair-subscript subscripts.NoSubscripts = refl
 fair-subscript _ = refl
 
 abbrev is_fair_form : List Part → Bool
-is_fair_form ps = nat_le 0 (asked (form_symbols ps)) && (all_outer (form_symbols ps) && true)
+is_fair_form ps = nat_le 0 (0 + asked (form_symbols ps)) && (all_outer (form_symbols ps) && true)
 
 fair-forms : IsTrue (list_all is_fair_form forms)
 unfolding forms
