@@ -1,3 +1,4 @@
+pub mod EachAffine
 pub mod Fits
 pub mod Found
 pub mod Parts
