@@ -1,0 +1,2 @@
+pub mod InNests
+pub mod Typed
