@@ -46,10 +46,8 @@ fn view_in(types: &[Option<Ty>], at: usize) -> Option<TypeView>
 
 /// The type at a place of an operation whose operands have these types.
 pub fn type_at<'t>(node: &'t Node, types: &'t [Option<Ty>], place: Place) -> Option<TypeView<'t>>
-    ensures {
-        (site : _) → operand_types (record site { node = node.now }) ≡ types.now
-        → option_map type_seen result ≡ type_at (record site { node = node.now }) place
-    }
+    ensures { (site : _) → operand_types (record site { node = node.now }) ≡ types.now
+        → option_map type_seen result ≡ type_at (record site { node = node.now }) place }
 {
     match place {
         Place::Operand(at) => view_in(types, at as usize),
@@ -97,10 +95,8 @@ pub fn least(count: Count) -> usize
 
 /// How many values a loop carries, where its parts can be read.
 pub fn carried_count(row: &Signature, node: &Node, types: &[Option<Ty>]) -> Option<u128>
-    ensures {
-        (name : _) (site : _) → operand_types (record site { node = node.now }) ≡ types.now
-        → result ≡ carried_count (row_with name row.now) (record site { node = node.now })
-    }
+    ensures { (name : _) (site : _) → operand_types (record site { node = node.now }) ≡ types.now
+        → result ≡ carried_count (row_with name row.now) (record site { node = node.now }) }
 {
     if has_segments(row) {
         parted_count(node)
@@ -125,10 +121,8 @@ pub fn carried_types<'t>(
     node: &Node,
     types: &'t [Option<Ty>],
 ) -> Option<&'t [Option<Ty>]>
-    ensures {
-        (name : _) (site : _) → operand_types (record site { node = node.now }) ≡ types.now
-        → option_map (λ list. list.now) result ≡ carried_types (row_with name row.now) (record site { node = node.now })
-    }
+    ensures { (name : _) (site : _) → operand_types (record site { node = node.now }) ≡ types.now
+        → option_map (λ list. list.now) result ≡ carried_types (row_with name row.now) (record site { node = node.now }) }
 {
     if has_segments(row) {
         parted_types(node, types)
@@ -139,10 +133,8 @@ pub fn carried_types<'t>(
 
 // The types of the third of a loop's parts.
 fn parted_types<'t>(node: &Node, types: &'t [Option<Ty>]) -> Option<&'t [Option<Ty>]>
-    ensures {
-        option_map (λ list. list.now) result
-        ≡ option_map (λ parts. take parts.carried (drop (parts.lower + parts.upper) types.now)) (segments_of node.now)
-    }
+    ensures { option_map (λ list. list.now) result
+        ≡ option_map (λ parts. take parts.carried (drop (parts.lower + parts.upper) types.now)) (segments_of node.now) }
 {
     match segments_of(node) {
         Some(parts) => Some(first_of(
