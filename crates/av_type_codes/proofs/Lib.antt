@@ -1,2 +1,3 @@
 pub mod InNests
+pub mod Stretches
 pub mod Typed
