@@ -2,19 +2,21 @@
 use Rattle.std.proofs.Common.{◌≡◌, ◌∙◌, ℕ, zero, suc, ◌+◌, List, [], ◌∷◌, ◌++◌, length, nat_eq, refl, ap, sym}
 use Rattle.std.specs.Prelude.{flat_map}
 use Rattle.av_ir.specs.declared.module.Func.{Func}
-use Rattle.av_ir.specs.declared.module.Op.{Op}
+use Rattle.av_ir.specs.declared.module.Op.{Op, roll-Op}
 use Rattle.av_ir.specs.declared.module.Region.{Region}
 use Rattle.av_rules.specs.declared.mode.Mode.{Mode}
-use Rattle.av_rules.specs.Places.{Site}
+use Rattle.av_rules.specs.Places.{Site, name_of}
 use Rattle.av_rules.specs.Sites.{behind, first_site, operations_in, within}
 use Rattle.av_rules.specs.Views.{fields, inside}
 use Rattle.av_tree.specs.declared.node.Body.{Body}
 use Rattle.av_tree.specs.declared.node.Node.{Node}
 use Rattle.av_tree.specs.declared.node.Tree.{Tree}
-use Rattle.av_elaboration.specs.Elaboration.{Elaborates, Known, Made, begun, elab, first_known, func_from, func_of, funcs_in_order, op_from, opened, ops_in_order, region_at, region_of, regions_in_order, result_types, then, with_regions}
+use Rattle.av_elaboration.specs.Elaboration.{Elaborates, Known, Made, begun, elab, ended, first_known, func_from, func_of, funcs_in_order, op_from, opened, ops_in_order, region_at, region_of, regions_in_order, result_types, results_of, then, with_regions}
 use Rattle.av_elaboration.specs.Fields.{constant_at, marks_at}
-use Rattle.av_elaboration.specs.Kinds.{Binding, done_by, use_at}
+use Rattle.av_elaboration.specs.Kinds.{Binding, Does, done_by, use_at, values_named}
 use Rattle.av_elaboration.specs.declared.tag.Tag.{Tag}
+use Rattle.av_elaboration.specs.declared.tag.Tag.TheVariants as tag
+use Rattle.av_elaboration.specs.Tags.{tag_of}
 use Rattle.av_ir.specs.declared.module.ValueId.{ValueId}
 use Rattle.av_signatures.specs.declared.signature.Uses.{Uses}
 use Rattle.av_elaboration.specs.ModuleLaws.{OneModuleLaw}
@@ -54,13 +56,29 @@ use-same : (m : Mode) (names : List Binding) (site : Site) (label : List ℕ) (u
 use-same m names site label u = refl
 
 done-same : (m : Mode) (t : Tag) (names : List Binding) (site : Site) (values : List ValueId) → done_by t names (in-mode m site) values ≡ done_by t names site values
-done-same m t names site values = refl
+done-same m tag.Constant names site values = refl
+done-same m _ names site values = refl
+
+with-same : (m : Mode) (site : Site) (known : Known) (inner : Made (List Region)) → with_regions (in-mode m site) known inner ≡ with_regions site known inner
+with-same m site known inner =
+    ap (λ (d : Does). record {
+      made = roll-Op (record {
+        number = known.operations;
+        kind = d.kind;
+        operands = d.operands;
+        results = results_of site known;
+        regions = inner.made;
+        marks = marks_at site;
+      });
+      after = ended site known inner.after;
+    }) (done-same m (tag_of (name_of site)) known.names site (values_named known.names (fields site.node).operands))
 
 op-same : (m : Mode) (nested : ℕ) (site : Site) (known : Known) → op_from nested (in-mode m site) known ≡ op_from nested site known
 unfolding op_from
-op-same m zero site known = refl
+op-same m zero site known = with-same m site known (record { made = []; after = begun site known })
 op-same m (suc nested) site known =
-    ap (with_regions site known) (regions-same m (op_from nested) (op-same m nested) site (fields site.node).regions (begun site known))
+    ap (with_regions (in-mode m site) known) (regions-same m (op_from nested) (op-same m nested) site (fields site.node).regions (begun site known))
+    ∙ with-same m site known (regions_in_order (op_from nested) site (fields site.node).regions (begun site known))
 
 func-same : (m : Mode) (nested : ℕ) (site : Site) (number : ℕ) → func_from nested (in-mode m site) number ≡ func_from nested site number
 unfolding func_from
