@@ -1,6 +1,6 @@
 -- What a chain of tests answers: the first that fails, or the last.
-use Rattle.std.proofs.Common.{◌≡◌, ◌∙◌, Bool, true, false, refl, ap, sym}
-use Rattle.std.specs.Prelude.{◌&&◌, ◌||◌, not}
+use Rattle.std.proofs.Common.{◌≡◌, ◌∙◌, Bool, true, false, ap, sym}
+use Rattle.std.specs.Prelude.{◌&&◌, ◌||◌}
 
 -- the first passed, and the second answers
 pub both : (x a b r : Bool) → x ≡ a → x ≡ true → r ≡ b → r ≡ (a && b)

@@ -1,5 +1,5 @@
 -- When the operations of a tree times its lanes aren't too many, and products of sizes up to a greatest number.
-use Rattle.std.proofs.Common.{◌≡◌, ◌∙◌, ℕ, zero, suc, ◌+◌, ◌*◌, ◌<◌, ◌≤◌, min, arith, Bool, true, false, List, [], ◌∷◌, ◌++◌, length, map, take, get_or, refl, ap, sym, subst}
+use Rattle.std.proofs.Common.{◌≡◌, ◌∙◌, ℕ, zero, suc, ◌+◌, ◌*◌, ◌<◌, ◌≤◌, min, arith, Bool, true, false, List, [], ◌∷◌, ◌++◌, length, map, take, get_or, refl, ap, sym}
 use Rattle.std.specs.Prelude.{◌&&◌, ◌||◌, not, Option, slice_get, nat_le, nat_lt, if◌then◌else◌, flat_map, unwrap_or}
 use Rattle.std.specs.List.{list_all, list_any}
 use Rattle.std.proofs.Math.Nat.{mul_assoc, mul_comm, mul-le-mul_left, mul-suc, mul-zero}
@@ -9,9 +9,7 @@ use Rattle.std.proofs.lemmas.List.Concat.{flat_map-cons}
 use Rattle.std.proofs.lemmas.List.Folds.{list_all-append, list_all_at, list_all-map, list_all_more}
 use Rattle.std.proofs.lemmas.Option.{slice_get-get_or}
 use Rattle.av_shapes.specs.Shape.{product}
-use Rattle.av_tree.specs.declared.node.Node.{Node}
 use Rattle.av_tree.specs.declared.node.Tree.{Tree}
-use Rattle.av_tree.specs.declared.written.TypeText.{TypeText}
 use Rattle.av_rules.specs.declared.mode.Mode.{Mode}
 use Rattle.av_rules.specs.declared.mode.Mode.TheVariants.{Vector}
 use Rattle.av_rules.specs.Agreement.{types_written}
@@ -19,7 +17,7 @@ use Rattle.av_rules.specs.Limits.{greater, greatest, is_small, lanes_of, most_la
 use Rattle.av_rules.specs.Places.{Site, site_row}
 use Rattle.av_rules.specs.Sites.{operations_in, sites}
 use Rattle.av_rules.specs.Walks.{AllSitesLaw}
-use Rattle.av_place_codes.specs.Trees.{WalkLaw, all_nodes, is_small_with_lanes, leave_room, leaves_room, types_at}
+use Rattle.av_place_codes.specs.Trees.{is_small_with_lanes, leave_room, types_at}
 use Rattle.av_place_codes.proofs.Walk.{walk-law}
 
 -- ---- the greatest of some numbers

@@ -1,5 +1,5 @@
 -- What definitions of this crate give at small values.
-use Rattle.std.specs.Prelude.{◌≡◌, ◌^◌, ◌-◌, true, false, [], ◌∷◌, Some, None, codes, refl}
+use Rattle.std.specs.Prelude.{◌≡◌, ◌^◌, ◌-◌, true, false, [], ◌∷◌, Some, None, codes}
 use Rattle.av_tree.specs.declared.written.DimText.TheVariants.{Dynamic, Fixed}
 use Rattle.av_tree.specs.declared.written.TypeText.{Scalar, Vector}
 use Rattle.av_place_codes.specs.Held.{held}

@@ -1,8 +1,5 @@
-use Rattle.std.proofs.Common.{map}
 use Rattle.std.specs.Prelude.{option_map}
-use Rattle.av_rules.specs.Counts.{counts, hands_on_enough}
 use Rattle.av_sites.specs.Parts.{holder_with}
-use Rattle.av_sites.specs.Rows.{row_with}
 use Rattle.av_place_codes.proofs.Both.{both, first}
 use Rattle.av_place_codes.proofs.counts.has_operands.Goals as goal
 

@@ -1,8 +1,8 @@
-use Rattle.std.proofs.Common.{◌∙◌, ap, sym}
+use Rattle.std.proofs.Common.{◌∙◌, ap}
 use Rattle.std.specs.Prelude.{not}
 use Rattle.av_rules.specs.Agreement.{types_of_arguments}
 use Rattle.av_types.specs.Texts.{is_vector_text}
-use Rattle.av_place_codes.proofs.Both.{both, either, enough, first}
+use Rattle.av_place_codes.proofs.Both.{both, either, first}
 use Rattle.av_place_codes.proofs.Sizes.{none-passes}
 use Rattle.av_place_codes.proofs.places.has_function_types.Goals as goal
 

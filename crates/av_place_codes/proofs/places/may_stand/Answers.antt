@@ -1,4 +1,3 @@
-use Rattle.std.proofs.Common.{◌∙◌, ap, sym}
 use Rattle.std.specs.Prelude.{option_map}
 use Rattle.av_rules.specs.Views.{fields}
 use Rattle.av_sites.specs.Parts.{holder_with}

@@ -1,5 +1,5 @@
 use Rattle.std.specs.Prelude.{not, option_map}
-use Rattle.std.proofs.Common.{◌∙◌, ap}
+use Rattle.std.proofs.Common.{ap}
 use Rattle.av_sites.specs.Parts.{holder_with}
 use Rattle.av_place_codes.proofs.Both.{both, either, enough, first}
 use Rattle.av_place_codes.proofs.regions.ends_well.Goals as goal

@@ -6,7 +6,6 @@ use Rattle.av_rules.specs.Agreement.{argument_types}
 use Rattle.av_rules.specs.Rows.{region_count}
 use Rattle.av_rules.specs.Views.{fields, inside}
 use Rattle.av_sites.specs.Rows.{row_with}
-use Rattle.av_place_codes.proofs.Both.{both}
 use Rattle.av_place_codes.proofs.regions.has_regions.Goals as goal
 
 pub returns-then-regions-region_count : goal.returns-then-regions-region_count

@@ -1,8 +1,7 @@
-use Rattle.std.proofs.Common.{◌≡◌, ◌∙◌, true, Bool, List, [], ◌∷◌, Option, Some, None, length, map, refl, ap, sym}
+use Rattle.std.proofs.Common.{◌≡◌, ◌∙◌, true, List, [], ◌∷◌, Option, Some, None, length, refl, sym}
 use Rattle.std.specs.Prelude.{◌==◌, option_map}
 use Rattle.std.specs.List.{list_all}
 use Rattle.std.specs.Option.{option_map_or}
-use Rattle.std.proofs.lemmas.Option.{none-some}
 use Rattle.av_ir.specs.declared.ty.Ty.{Ty}
 use Rattle.av_tree.specs.declared.node.Body.{Body}
 use Rattle.av_rules.specs.Views.{inside}

@@ -1,5 +1,5 @@
 use Rattle.std.proofs.Common.{rules, ◌∙◌, ap, sym}
-use Rattle.std.specs.Prelude.{◌&&◌, flat_map}
+use Rattle.std.specs.Prelude.{flat_map}
 use Rattle.av_tree.specs.declared.node.Node.{out-Node}
 use Rattle.std.specs.List.{list_all}
 use Rattle.av_place_codes.specs.Trees.{all_nodes, leave_room, leaves_room, nodes_within, types_at}
