@@ -1,5 +1,5 @@
 -- Stretching, size by size.
-use Rattle.std.proofs.Common.{◌≡◌, ◌∙◌, ℕ, ◌+◌, ◌<◌, ◌≤◌, arith, Bool, true, false, not, ◌&&◌, ◌||◌, List, [], ◌∷◌, length, drop, get_or, refl, ap, sym}
+use Rattle.std.proofs.Common.{◌≡◌, ◌∙◌, ℕ, suc, ◌+◌, ◌-◌, ◌<◌, ◌≤◌, arith, Bool, true, false, not, ◌&&◌, ◌||◌, List, [], ◌∷◌, length, drop, get_or, refl, ap, sym}
 use Rattle.std.specs.Prelude.{◌==◌}
 use Rattle.std.specs.Bool.{beq}
 use Rattle.std.proofs.lemmas.Bool.Decides.{nat_tests}
@@ -15,13 +15,18 @@ and_true : (a : Bool) → a ≡ (a && true)
 and_true true = refl
 and_true false = refl
 
+not_zero : (n : ℕ) → (suc n == 0) ≡ false
+not_zero n = grind (arith, nat_tests)
+
 one : (n m : ℕ) (ns ms : List ℕ) (scales scaled : Bool) → length ns ≡ length ms
     → stretch (n ∷ ns) scales (m ∷ ms) scaled
     ≡ (stretch (n ∷ []) ((length ns == 0) && scales) (m ∷ []) ((length ns == 0) && scaled) && stretch ns scales ms scaled)
 one n m [] [] scales scaled h = and_true (stretch (n ∷ []) scales (m ∷ []) scaled)
 one n m [] (y ∷ ms) scales scaled h = absurd (omega arith)
 one n m (x ∷ ns) [] scales scaled h = absurd (omega arith)
-one n m (x ∷ ns) (y ∷ ms) scales scaled h = ap (λ b. b && stretch (x ∷ ns) scales (y ∷ ms) scaled) (with_true (n == m) (n == 1))
+one n m (x ∷ ns) (y ∷ ms) scales scaled h =
+    ap (λ b. b && stretch (x ∷ ns) scales (y ∷ ms) scaled) (with_true (n == m) (n == 1))
+    ∙ ap (λ t. stretch (n ∷ []) (t && scales) (m ∷ []) (t && scaled) && stretch (x ∷ ns) scales (y ∷ ms) scaled) (sym (not_zero (length ns)))
 
 is_end : (xs : List ℕ) (k : ℕ) → k < length xs → (length (drop (k + 1) xs) == 0) ≡ (k + 1 == length xs)
 is_end xs k below = let e : length (drop (k + 1) xs) ≡ length xs - (k + 1) = length-drop (k + 1) xs in grind (arith, nat_tests, e)
