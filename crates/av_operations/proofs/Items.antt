@@ -1,5 +1,5 @@
 -- What an item takes off a stack: one value, or two.
-use Rattle.std.proofs.Common.{◌≡◌, List, [], ◌∷◌, Option, Some, None, refl, ap, ◌∙◌}
+use Rattle.std.proofs.Common.{◌≡◌, List, [], ◌∷◌, Some, None, refl}
 use Rattle.av_dialects.specs.declared.item.Item.TheVariants as item
 use Rattle.av_dialects.specs.declared.item.Key.{Key}
 use Rattle.av_dialects.specs.declared.item.Key.TheVariants as key

@@ -1,6 +1,6 @@
 -- Pieces by their brackets: how many they open, and how deep they stand.
 use Rattle.std.proofs.Common.{◌≡◌, ℕ, ◌+◌, ◌-◌, ◌≤◌, cond, List, [], ◌∷◌, ◌++◌, map, refl, ◌∙◌, ap, subst, sym, arith}
-use Rattle.std.specs.Prelude.{nat_eq, None}
+use Rattle.std.specs.Prelude.{nat_eq}
 use Rattle.std.specs.List.{list_all}
 use Rattle.std.specs.Char.{is_ascii_digit}
 use Rattle.av_lex.specs.declared.token.Kind.{Kind}
