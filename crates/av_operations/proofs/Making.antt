@@ -78,9 +78,9 @@ unfolding item_taken parts_taken
 part-made number place p ps types own old between new later node g h e =
     let lines = taken (sorts_of (form_symbols ps)) (made_of number place ps (types ++ unwritten own.operands)) between in
     let given-later : taken (sorts_of (form_symbols ps)) (with_gift number place ps types own) between ≡ Some (roll-Node (given own (out-Node later)), new) =
-        taken-through (sorts_of (form_symbols ps)) (made_of number place ps (types ++ unwritten own.operands)) (λ (l : Line). roll-Node (given own l)) between
-        ∙ after-gift own lines later new
-        (sym (taken-through (sorts_of (form_symbols ps)) (made_of number place ps (types ++ unwritten own.operands)) roll-Node between) ∙ h) in
+    taken-through (sorts_of (form_symbols ps)) (made_of number place ps (types ++ unwritten own.operands)) (λ (l : Line). roll-Node (given own l)) between
+    ∙ after-gift own lines later new
+    (sym (taken-through (sorts_of (form_symbols ps)) (made_of number place ps (types ++ unwritten own.operands)) roll-Node between) ∙ h) in
     rw e (behind-lead number place p ps types old (Some (roll-Node (given own (out-Node later)), new))
     (taken-behind (item_symbols p.1) (form_symbols ps) (gift_of p.1) (with_gift number place ps types) own old between
     (Some (roll-Node (given own (out-Node later)), new)) g given-later))
@@ -99,9 +99,9 @@ unfolding item_taken parts_taken
 later-missing number place p ps types own old between g h =
     let lines = taken (sorts_of (form_symbols ps)) (made_of number place ps (types ++ unwritten own.operands)) between in
     let none-later : taken (sorts_of (form_symbols ps)) (with_gift number place ps types own) between ≡ None =
-        taken-through (sorts_of (form_symbols ps)) (made_of number place ps (types ++ unwritten own.operands)) (λ (l : Line). roll-Node (given own l)) between
-        ∙ nothing-after own lines
-        (sym (taken-through (sorts_of (form_symbols ps)) (made_of number place ps (types ++ unwritten own.operands)) roll-Node between) ∙ h) in
+    taken-through (sorts_of (form_symbols ps)) (made_of number place ps (types ++ unwritten own.operands)) (λ (l : Line). roll-Node (given own l)) between
+    ∙ nothing-after own lines
+    (sym (taken-through (sorts_of (form_symbols ps)) (made_of number place ps (types ++ unwritten own.operands)) roll-Node between) ∙ h) in
     behind-lead number place p ps types old None
     (taken-behind (item_symbols p.1) (form_symbols ps) (gift_of p.1) (with_gift number place ps types) own old between None g none-later)
 

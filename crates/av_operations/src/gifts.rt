@@ -172,10 +172,7 @@ fn overflow(stack: &mut Stack) -> Result<Gift, Fault>
     ensures misshapen { IfErr result (λ fault. fault ≡ Fault.Misshapen → item_taken items.Overflow stack.old ≡ None) }
 {
     let entries = stack.entries()?;
-    Ok(change_alone(
-        stack.alloc(),
-        Change::Properties(in_order(entries)),
-    ))
+    Ok(change_alone(stack.alloc(), Change::Properties(in_order(entries))))
 }
 
 #[tactic(auto, using(crate::proofs::Items::taking), unfolding(crate::specs::Taking::item_taken))]
@@ -184,10 +181,7 @@ fn marks(stack: &mut Stack) -> Result<Gift, Fault>
     ensures misshapen { IfErr result (λ fault. fault ≡ Fault.Misshapen → item_taken items.Marks stack.old ≡ None) }
 {
     let entries = stack.entries()?;
-    Ok(change_alone(
-        stack.alloc(),
-        Change::Attributes(in_order(entries)),
-    ))
+    Ok(change_alone(stack.alloc(), Change::Attributes(in_order(entries))))
 }
 
 #[tactic(auto, using(crate::proofs::Items::taking), unfolding(crate::specs::Taking::item_taken))]

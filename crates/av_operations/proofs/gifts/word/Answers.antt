@@ -25,6 +25,6 @@ returns-in_ok-gift-in-Kind-clause-ok c =
 pub returns-in-StaticPosition-clause-ok : goal.returns-in-StaticPosition-clause-ok
 unfolding item_taken
 returns-in-StaticPosition-clause-ok c = elim c.in-StaticPosition.is [
-    inl e ↦ rw e (none-taken _ _ _ (rw (c.operands_alone.ensures, c.new.ensures)))
+  | inl e ↦ rw e (none-taken _ _ _ (rw (c.operands_alone.ensures, c.new.ensures)))
   | inr e ↦ rw e (none-taken _ _ _ (rw (c.operands_alone.ensures, c.new.ensures)))
 ]
