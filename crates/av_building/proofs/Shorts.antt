@@ -84,9 +84,10 @@ module _ {X : Type 0} (p : X → Bool) (xs : List X) (k : ℕ) (within : k < len
   pub more-held : (ys zs : List X) (x : X) → Some x ≡ option_and_then (λ y. if p y then Some y else None) (slice_get xs k) → ys ≡ take k xs
       → list_all p (take k xs) ≡ true → zs ≡ ys ++ x ∷ [] → (zs ≡ take (k + 1) xs) × (list_all p (take (k + 1) xs) ≡ true)
   more-held ys zs x got is all next =
-      let one = get_or_from_slice_get xs k x x (one-more x (slice_get xs k) got) in
-      (next ∙ ap (λ l. l ++ x ∷ []) is ∙ ap (λ y. take k xs ++ y ∷ []) (sym one) ∙ sym (take_more xs k x within),
-       list_all_more p xs k x within ∙ ap (λ b. b && p (get_or xs k x)) all ∙ ap p one ∙ passes x (slice_get xs k) got)
+      let one = get_or_from_slice_get xs k x x (one-more x (slice_get xs k) got) in (
+        next ∙ ap (λ l. l ++ x ∷ []) is ∙ ap (λ y. take k xs ++ y ∷ []) (sym one) ∙ sym (take_more xs k x within),
+        list_all_more p xs k x within ∙ ap (λ b. b && p (get_or xs k x)) all ∙ ap p one ∙ passes x (slice_get xs k) got,
+      )
 
 -- ---- sizes
 factor-small : (n p : ℕ) → 1 ≤ n * p → n * p ≤ 256 → n ≤ 256
@@ -110,6 +111,7 @@ sizes-small (n ∷ ns) low high =
   where
     both-true : (a b : Bool) → a ≡ true → b ≡ true → (a && b) ≡ true
     both-true a b p q = ap (λ x. x && b) p ∙ q
+
     size-true : (k : ℕ) → k ≤ 256 → is_size k ≡ true
     size-true k h = grind (arith, nat_tests)
 
@@ -122,6 +124,7 @@ not-sizes sizes none = by (are_sizes sizes) refl
       where
         low : are_sizes sizes ≡ true → 1 ≤ product sizes
         low h = grind (arith, nat_tests)
+
         high : are_sizes sizes ≡ true → product sizes ≤ 256
         high h = grind (arith, nat_tests)
 

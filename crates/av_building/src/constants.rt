@@ -114,11 +114,7 @@ fn add_element(listed: &mut Seq<u64>, width: Width, element: &Element) -> Result
 }
 
 #[cycle(listing)]
-fn add_elements(
-    listed: &mut Seq<u64>,
-    width: Width,
-    elements: &[Element],
-) -> Result<(), AllocError>
+fn add_elements(listed: &mut Seq<u64>, width: Width, elements: &[Element]) -> Result<(), AllocError>
     ensures { OnOk result (listed.new ≡ listed.old ++ patterns width (flat_map (λ element. (nest_of element).leaves) elements.now)) }
 {
     for element in elements {

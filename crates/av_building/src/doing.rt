@@ -40,10 +40,8 @@ pub fn done(
     node: &Node,
     values: Seq<ValueId>,
 ) -> Result<Does, AllocError>
-    ensures {
-        (site : _) → are_held tag node.now ≡ true
-        → IfOk result (λ d. does d.kind d.operands ≡ done_by tag (bindings_of names.now) (record site { node = node.now; aliases = aliases.now }) values)
-    }
+    ensures { (site : _) → are_held tag node.now ≡ true
+        → IfOk result (λ d. does d.kind d.operands ≡ done_by tag (bindings_of names.now) (record site { node = node.now; aliases = aliases.now }) values) }
 {
     match tag {
         Tag::AffineFor => looped(alloc, names, aliases, node),
@@ -99,7 +97,14 @@ fn map_use(
 ) -> Result<MapUse, AllocError>
     ensures { (site : _) → IfOk result (λ u. u ≡ use_at (bindings_of names.now) (record site { node = node.now; aliases = aliases.now }) (codes "map") (From at)) }
 {
-    use_at(alloc, names, aliases, node, b"map".as_slice(), Uses::From(at))
+    use_at(
+        alloc,
+        names,
+        aliases,
+        node,
+        b"map".as_slice(),
+        Uses::From(at),
+    )
 }
 
 // The first values, with others behind them.
@@ -116,19 +121,26 @@ fn in_front(
 }
 
 // A loop, with the values of both bounds and those that it carries.
-fn looped(
-    alloc: Global,
-    names: &Names,
-    aliases: &[Alias],
-    node: &Node,
-) -> Result<Does, AllocError>
-    ensures {
-        (site : _) (values : _) → are_held AffineFor node.now ≡ true
-        → IfOk result (λ d. does d.kind d.operands ≡ done_by AffineFor (bindings_of names.now) (record site { node = node.now; aliases = aliases.now }) values)
-    }
+fn looped(alloc: Global, names: &Names, aliases: &[Alias], node: &Node) -> Result<Does, AllocError>
+    ensures { (site : _) (values : _) → are_held AffineFor node.now ≡ true
+        → IfOk result (λ d. does d.kind d.operands ≡ done_by AffineFor (bindings_of names.now) (record site { node = node.now; aliases = aliases.now }) values) }
 {
-    let lower = bound(alloc, names, aliases, node, b"lowerBoundMap".as_slice(), Segment::Lower)?;
-    let upper = bound(alloc, names, aliases, node, b"upperBoundMap".as_slice(), Segment::Upper)?;
+    let lower = bound(
+        alloc,
+        names,
+        aliases,
+        node,
+        b"lowerBoundMap".as_slice(),
+        Segment::Lower,
+    )?;
+    let upper = bound(
+        alloc,
+        names,
+        aliases,
+        node,
+        b"upperBoundMap".as_slice(),
+        Segment::Upper,
+    )?;
     let carried = values_named(alloc, names, carried_names(node))?;
     let operands = joined(lower.operands, upper.operands, carried)?;
     let kind = OpKind::AffineFor {
@@ -165,16 +177,9 @@ fn bound(
 }
 
 // The kind of an operation that uses its operands as they are.
-fn kind_of(
-    alloc: Global,
-    tag: Tag,
-    aliases: &[Alias],
-    node: &Node,
-) -> Result<OpKind, AllocError>
-    ensures {
-        (names : _) (site : _) (values : _) → are_held tag node.now ≡ true → applies_map tag ≡ false
-        → IfOk result (λ k. does k values ≡ done_by tag names (record site { node = node.now; aliases = aliases.now }) values)
-    }
+fn kind_of(alloc: Global, tag: Tag, aliases: &[Alias], node: &Node) -> Result<OpKind, AllocError>
+    ensures { (names : _) (site : _) (values : _) → are_held tag node.now ≡ true → applies_map tag ≡ false
+        → IfOk result (λ k. does k values ≡ done_by tag names (record site { node = node.now; aliases = aliases.now }) values) }
 {
     match tag {
         Tag::Constant => Ok(OpKind::ArithConstant(constant(alloc, node)?)),

@@ -123,10 +123,8 @@ fn kind_numbered(at: usize) -> Kind9
 
 // The numbers of a property.
 fn numbers(alloc: Global, node: &Node, label: &[u8]) -> Result<Seq<u16>, AllocError>
-    ensures {
-        (site : _) → list_all is_short (unwrap_or (numbers_of label.now node.now) []) ≡ true
-        → IfOk result (λ numbers. numbers ≡ numbers_at label.now (record site { node = node.now }))
-    }
+    ensures { (site : _) → list_all is_short (unwrap_or (numbers_of label.now node.now) []) ≡ true
+        → IfOk result (λ numbers. numbers ≡ numbers_at label.now (record site { node = node.now })) }
 {
     match numbers_in(node, label) {
         Some(written) => short_numbers(alloc, written),
@@ -140,10 +138,8 @@ fn numbers(alloc: Global, node: &Node, label: &[u8]) -> Result<Seq<u16>, AllocEr
 ///
 /// Want of memory.
 pub fn position_of(alloc: Global, node: &Node) -> Result<Seq<u16>, AllocError>
-    ensures {
-        (site : _) → list_all is_short (unwrap_or (numbers_of (codes "static_position") node.now) []) ≡ true
-        → IfOk result (λ numbers. numbers ≡ numbers_at (codes "static_position") (record site { node = node.now }))
-    }
+    ensures { (site : _) → list_all is_short (unwrap_or (numbers_of (codes "static_position") node.now) []) ≡ true
+        → IfOk result (λ numbers. numbers ≡ numbers_at (codes "static_position") (record site { node = node.now })) }
 {
     numbers(alloc, node, b"static_position".as_slice())
 }
@@ -154,10 +150,8 @@ pub fn position_of(alloc: Global, node: &Node) -> Result<Seq<u16>, AllocError>
 ///
 /// Want of memory.
 pub fn picked(alloc: Global, node: &Node) -> Result<Seq<u16>, AllocError>
-    ensures {
-        (site : _) → list_all is_short (unwrap_or (numbers_of (codes "mask") node.now) []) ≡ true
-        → IfOk result (λ numbers. numbers ≡ numbers_at (codes "mask") (record site { node = node.now }))
-    }
+    ensures { (site : _) → list_all is_short (unwrap_or (numbers_of (codes "mask") node.now) []) ≡ true
+        → IfOk result (λ numbers. numbers ≡ numbers_at (codes "mask") (record site { node = node.now })) }
 {
     numbers(alloc, node, b"mask".as_slice())
 }
@@ -185,10 +179,8 @@ fn short_of(number: i128) -> u16
 
 /// The step of a loop.
 pub fn step(node: &Node) -> u64
-    ensures {
-        (site : _) → option_map_or is_step (step_number node.now) true ≡ true
-        → result ≡ step_at (record site { node = node.now })
-    }
+    ensures { (site : _) → option_map_or is_step (step_number node.now) true ≡ true
+        → result ≡ step_at (record site { node = node.now }) }
 {
     match entry(node, b"step".as_slice()) {
         Some(value) => step_of(number_in(b"index".as_slice(), value)),
@@ -201,7 +193,11 @@ fn step_of(number: Option<i128>) -> u64
     ensures { option_map_or is_step number true ≡ true → result ≡ option_map_or unsigned_abs number 0 }
 {
     match number {
-        Some(number) => if 0 <= number && number < 0x8000_0000 { number as u64 } else { 0 },
+        Some(number) => if 0 <= number && number < 0x8000_0000 {
+            number as u64
+        } else {
+            0
+        },
         None => 0,
     }
 }

@@ -67,7 +67,11 @@ fn extent_in(sizes: ExtentsView, at: usize) -> Option<Extent>
     ensures { result ≡ option_and_then taken_extent (slice_get (extents_seen sizes.entry) at) }
 {
     match extent_at(sizes, at)? {
-        SizeText::Fixed(size) => if size < 0x1_0000_0000_0000_0000 { Some(Extent::Fixed(size as u64)) } else { None },
+        SizeText::Fixed(size) => if size < 0x1_0000_0000_0000_0000 {
+            Some(Extent::Fixed(size as u64))
+        } else {
+            None
+        },
         SizeText::Dynamic => Some(Extent::Dyn),
     }
 }
@@ -112,7 +116,11 @@ fn size_in(sizes: SizesView, at: usize) -> Option<u16>
     ensures { result ≡ option_and_then taken_size (slice_get (sizes_seen sizes.entry) at) }
 {
     let size = size_at(sizes, at)?;
-    if size <= MAX_SIZE { Some(size as u16) } else { None }
+    if size <= MAX_SIZE {
+        Some(size as u16)
+    } else {
+        None
+    }
 }
 
 /// The types of an operation's results.

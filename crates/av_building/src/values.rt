@@ -33,11 +33,7 @@ fn value_named(names: &Names, name: &[u8]) -> ValueId
 /// # Errors
 ///
 /// Want of memory.
-pub fn values_named(
-    alloc: Global,
-    names: &Names,
-    used: &[Text],
-) -> Result<Seq<ValueId>, AllocError>
+pub fn values_named(alloc: Global, names: &Names, used: &[Text]) -> Result<Seq<ValueId>, AllocError>
     ensures { IfOk result (λ values. values ≡ values_named (bindings_of names.now) used.now) }
 {
     let mut values = Seq::new(alloc);

@@ -1,5 +1,5 @@
 -- The first that fails among some things and others behind them, and what a walk over both gives.
-use Rattle.std.proofs.Common.{◌≡◌, ◌∙◌, ℕ, zero, suc, ◌+◌, Bool, List, [], ◌∷◌, ◌++◌, length, Option, Some, None, refl, ap, sym, arith}
+use Rattle.std.proofs.Common.{◌≡◌, ◌∙◌, ℕ, zero, suc, ◌+◌, Bool, List, [], ◌∷◌, ◌++◌, length, Option, Some, None, refl, ap, sym, subst, arith}
 use Rattle.std.specs.Option.{option_map}
 use Rattle.av_rules.specs.Least.{Places, after_one, first_place, found_first, least_places}
 use Rattle.av_elaboration.specs.Elaboration.{Known, Made}
@@ -42,8 +42,9 @@ abbrev pub outcome_of : {A : Type 0} → ℕ → Option Places → A → Outcome
 outcome_of first None a = gives a
 outcome_of first (Some q) a = fails (first + q.thing) (suc q.question)
 
-apart : {A : Type 0} (first n : ℕ) (q : Places) → fails {A = A} ((first + n) + q.thing) (suc q.question) ≡ fails (first + (n + q.thing)) (suc q.question)
-apart first n q = ap (λ k. fails k (suc q.question)) (omega arith)
+-- what fails, by an equation between numbers
+pub fails-at : {A : Type 0} (k l c : ℕ) (P : Outcome A → Type 0) → k ≡ l → P (fails k c) → P (fails l c)
+fails-at k l c P e h = subst (λ n. P (fails n c)) e h
 
 -- one part, and what follows it
 pub follows-as : {A B C : Type 0} (first n : ℕ) (found later : Option Places) (a : A) (b : B) (f : A → B → C) (follows : A → Outcome B)
@@ -51,15 +52,18 @@ pub follows-as : {A B C : Type 0} (first n : ℕ) (found later : Option Places) 
     → next (outcome_of first found a) (λ x. next (follows x) (λ y. gives (f x y))) ≡ outcome_of first (joined found n later) (f a b)
 follows-as first n (Some q) later a b f follows h = refl
 follows-as first n None None a b f follows h = ap (λ o. next o (λ y. gives (f a y))) h
-follows-as first n None (Some q) a b f follows h = ap (λ o. next o (λ y. gives (f a y))) h ∙ apart first n q
+follows-as first n None (Some q) a b f follows h =
+    fails-at ((first + n) + q.thing) (first + (n + q.thing)) (suc q.question) (λ o. next (follows a) (λ y. gives (f a y)) ≡ o) (omega arith) (ap (λ o. next o (λ y. gives (f a y))) h)
 
 -- the operation itself, and what is in it
 pub checked-as : {A B : Type 0} (number : ℕ) (first : Option ℕ) (found : Option Places) (a : A) (f : A → B) (inner : Outcome A)
     → inner ≡ outcome_of (number + 1) found a
     → checked number first (next inner (λ x. gives (f x))) ≡ outcome_of number (found_first first found) (f a)
-checked-as number (Some j) found a f inner h = ap (λ k. fails k (suc j)) (omega arith)
+checked-as number (Some j) found a f inner h =
+    fails-at number (number + 0) (suc j) (λ o. fails number (suc j) ≡ o) (omega arith) refl
 checked-as number None None a f inner h = ap (λ o. next o (λ x. gives (f x))) h
-checked-as number None (Some q) a f inner h = ap (λ o. next o (λ x. gives (f x))) h ∙ ap (λ k. fails k (suc q.question)) more
+checked-as number None (Some q) a f inner h =
+    fails-at ((number + 1) + q.thing) (number + suc q.thing) (suc q.question) (λ o. next inner (λ x. gives (f x)) ≡ o) more (ap (λ o. next o (λ x. gives (f x))) h)
   where
     more : (number + 1) + q.thing ≡ number + suc q.thing
     more = omega arith
