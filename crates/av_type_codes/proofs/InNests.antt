@@ -235,6 +235,12 @@ pub all_agree : (sizes : List ℕ) (items : List Element) (k : ℕ) → 0 < leng
 all_agree sizes items k some past h =
     ap (list_all (λ i. has_sizes sizes (nest_of i))) (sym (drop_all k items past)) ∙ h ∙ sym (common sizes items some)
 
+pub is_zero : (n : ℕ) (b : Bool) → b ≡ (n == 0) → b ≡ true → n ≡ 0
+is_zero n b e h = let z : (n == 0) ≡ true = sym e ∙ h in grind (arith, nat_tests)
+
+pub is_some_left : (n : ℕ) (b : Bool) → b ≡ (n == 0) → b ≡ false → 0 < n
+is_some_left n b e h = let z : (n == 0) ≡ false = sym e ∙ h in grind (arith, nat_tests)
+
 pub none_at_end : (sizes : List ℕ) (from : ℕ) (items : List Element) → from ≤ length sizes → length items ≡ 0
     → (from == length sizes) ≡ are_sizes (drop from sizes) (common_sizes (map nest_of items))
 none_at_end sizes from [] within h = at_end sizes from within

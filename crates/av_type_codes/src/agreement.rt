@@ -5,9 +5,9 @@ ghost use Rattle.std.specs.Prelude.{◌≡◌, ◌&&◌, [], length, option_map,
 ghost use Rattle.std.specs.List.{list_all};
 ghost use Rattle.std.specs.Option.{option_map_or};
 ghost use Rattle.std.specs.Cmp.Lexicographic.{pointwise};
-ghost use Rattle.av_rules.specs.Agreement.{asks_types, between, if_known, is_of, is_written_as, types_agree};
+ghost use Rattle.av_rules.specs.Agreement.{asks_types, between, if_both, if_known, is_of, is_pair, is_written_as, types_agree};
 ghost use Rattle.av_rules.specs.Places.{operand_types};
-ghost use Rattle.av_rules.specs.Typing.{index_type, result_types};
+ghost use Rattle.av_rules.specs.Typing.{index_type, result_types, type_at};
 ghost use Rattle.av_rules.specs.Views.{fields};
 ghost use Rattle.av_types.specs.Relations.{same_type};
 ghost use Rattle.av_sites.specs.Parts.{holder_with};
@@ -21,7 +21,7 @@ use super::relations::same_if_known;
 use super::tests::{IsPlain, IsType, IsValueType};
 use super::values::value_agrees;
 use av_ir::Ty;
-use av_signatures::{Class, Demand, Place, Signature};
+use av_signatures::{Class, Demand, Pair, Place, Signature};
 use av_sites::{
     Holder, ResultTypes, TypeView, entry, in_types, out_types, result_at, result_count, spelled,
     type_at, view_of,
@@ -39,17 +39,26 @@ pub fn types_agree(
     holder: Option<Holder>,
 ) -> bool
     ensures {
-        (name own : _) (site : _) → operand_types (record site { node = node.now }) ≡ types.now
-        → results_seen results.entry ≡ result_types (row_with name row.now) (record site { node = node.now })
+        (name own : _) (site : _)
+        → operand_types (record site { node = node.now; is_last = is_last; holder = option_map (holder_with own) holder.entry }) ≡ types.now
+        → results_seen results.entry
+            ≡ result_types (row_with name row.now) (record site { node = node.now; is_last = is_last; holder = option_map (holder_with own) holder.entry })
         → result ≡ types_agree (row_with name row.now) (record site { node = node.now; is_last = is_last; holder = option_map (holder_with own) holder.entry })
     }
 {
-    every_written(&IsType, row, node)
-        && writes_types(node, types, results)
-        && every_result(&IsValueType, results)
-        && all_agree(row.demands, node, types, results)
-        && regions_agree(row, node, types)
-        && hands_on_types(row, types, is_last, holder)
+    if !every_written(&IsType, row, node) {
+        return false;
+    }
+    if !writes_types(node, types, results) {
+        return false;
+    }
+    if !every_result(&IsValueType, results) {
+        return false;
+    }
+    if !all_agree(row.demands, node, types, results) {
+        return false;
+    }
+    regions_agree(row, node, types) && hands_on_types(row, types, is_last, holder)
 }
 
 // Whether each type is written as it is, or left out.
@@ -118,12 +127,8 @@ fn asks_types(demand: Demand, node: &Node, types: &[Option<Ty>], results: Result
 {
     match demand {
         Demand::Is(place, class) => is_of_class(class, type_at(node, types, place)),
-        Demand::Two(pair, first, second) | Demand::IfThere(pair, first, second) => are_pair(
-            node,
-            pair,
-            type_at(node, types, first),
-            type_at(node, types, second),
-        ),
+        Demand::Two(pair, first, second) => pair_agrees(node, types, pair, first, second),
+        Demand::IfThere(pair, first, second) => pair_agrees(node, types, pair, first, second),
         Demand::Indices(from, behind) => are_indices(between(from, behind, types)),
         Demand::PlainResults => every_result(&IsPlain, results),
         Demand::ValueAgrees => value_agrees(
@@ -132,6 +137,20 @@ fn asks_types(demand: Demand, node: &Node, types: &[Option<Ty>], results: Result
         ),
         _ => true,
     }
+}
+
+fn pair_agrees(node: &Node, types: &[Option<Ty>], pair: Pair, first: Place, second: Place) -> bool
+    ensures {
+        (site : _) → operand_types (record site { node = node.now }) ≡ types.now
+        → result ≡ if_both (is_pair (record site { node = node.now }) pair) (type_at (record site { node = node.now }) first) (type_at (record site { node = node.now }) second)
+    }
+{
+    are_pair(
+        node,
+        pair,
+        type_at(node, types, first),
+        type_at(node, types, second),
+    )
 }
 
 fn is_of_class(class: Class, ty: Option<TypeView>) -> bool

@@ -3,7 +3,7 @@ use Rattle.av_rules.specs.Constants.{common_sizes, nest_of}
 use Rattle.av_sites.specs.TypeViews.{sizes_seen}
 use Rattle.av_tree.specs.declared.attribute.Element.{Element}
 use Rattle.av_type_codes.specs.Nested.{are_sizes, has_sizes}
-use Rattle.av_type_codes.proofs.InNests.{all_agree, no_size_left, none_at_end, one_at_end, one_differs, one_has, size_agrees, size_differs}
+use Rattle.av_type_codes.proofs.InNests.{all_agree, is_some_left, is_zero, no_size_left, none_at_end, one_at_end, one_differs, one_has, size_agrees, size_differs}
 use Rattle.av_type_codes.proofs.nests.+sizes.Goals as goal
 
 pub has_sizes-returns-then-from-size_count : goal.has_sizes-returns-then-from-size_count
@@ -30,7 +30,8 @@ has_sizes-returns-in-Number t c =
 
 pub have_sizes-returns-then-is_empty : goal.have_sizes-returns-then-is_empty
 have_sizes-returns-then-is_empty t c =
-    ap (nat_eq c.args.from) c.size_count.ensures ∙ none_at_end (sizes_seen c.args.sizes) c.args.from c.args.items.now c.requires ?
+    ap (nat_eq c.args.from) c.size_count.ensures ∙ none_at_end (sizes_seen c.args.sizes) c.args.from c.args.items.now c.requires
+    (is_zero (length c.args.items.now) c.is_empty.result c.is_empty.ensures c.if-is_empty.true)
 
 pub have_sizes-returns-then-not-has_sizes : goal.have_sizes-returns-then-not-has_sizes
 have_sizes-returns-then-not-has_sizes t c =
@@ -39,4 +40,5 @@ have_sizes-returns-then-not-has_sizes t c =
 
 pub have_sizes-returns : goal.have_sizes-returns
 have_sizes-returns t c =
-    all_agree (drop c.args.from (sizes_seen c.args.sizes)) c.args.items.now c.loop-item.item-index ? c.loop-item-test.false c.loop-item.invariant
+    all_agree (drop c.args.from (sizes_seen c.args.sizes)) c.args.items.now c.loop-item.item-index
+    (is_some_left (length c.args.items.now) c.is_empty.result c.is_empty.ensures c.if-is_empty.false) c.loop-item-test.false c.loop-item.invariant
