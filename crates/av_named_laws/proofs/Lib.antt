@@ -1,7 +1,9 @@
-pub mod Lists
-pub mod Items
-pub mod Properties
-pub mod Maps
-pub mod Loops
+pub mod ReadOperands
+pub mod ReadTypes
+pub mod ReadProperties
+pub mod ReadMaps
+pub mod ReadSubscripts
+pub mod ReadBounds
+pub mod ReadCarried
 pub mod Operands
 pub mod Parts

@@ -6,7 +6,8 @@ use Rattle.av_dialects.specs.Rows.{Part}
 use Rattle.av_dialects.specs.Types.{needs, takes}
 use Rattle.av_printer.specs.Operations.{Head}
 use Rattle.av_form_laws.specs.Items.{Fits, HasFirst, bound_size, rest}
-use Rattle.av_form_laws.specs.Lines.{Line, back, first_text, front}
+use Rattle.av_form_laws.specs.Lines.{first_text}
+use Rattle.av_values.specs.Gifts.{Line, back, front}
 use Rattle.av_form_laws.specs.Rows.{Whole}
 use Rattle.av_form_laws.proofs.Lenses.{cleared-operands}
 use Rattle.av_named_laws.specs.Laws.{left_behind, own}
@@ -24,8 +25,13 @@ one-taken : (xs : List (List ℕ)) → HasFirst xs → length (drop 1 xs) + 1 �
 one-taken [] h = absurd h
 one-taken (x ∷ xs) h = omega arith
 
+some-taken : (m : ℕ) (xs : List (List ℕ)) → HasFirst (take m xs) → length (drop m xs) + 1 ≤ length xs
+some-taken zero xs h = absurd h
+some-taken (suc m) [] h = absurd h
+some-taken (suc m) (x ∷ xs) h = let e : length (drop m xs) ≡ length xs - m = length-drop m xs in omega arith
+
 front-taken : (k : ℕ) (xs : List (List ℕ)) → HasFirst (front k xs) → length (back k xs) + 1 ≤ length xs
-front-taken k xs h = ?
+front-taken k xs h = some-taken (length xs - k) xs h
 
 more-taken : (k : ℕ) (xs : List (List ℕ)) → HasFirst xs → length (back k (drop 1 xs)) + 1 ≤ length xs
 more-taken k [] h = absurd h

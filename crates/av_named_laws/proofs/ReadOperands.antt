@@ -1,5 +1,5 @@
 -- Operands are read as they are printed.
-use Rattle.std.proofs.Common.{◌≡◌, ℕ, List, [], ◌∷◌, ◌++◌, map, take, append-nil, refl}
+use Rattle.std.proofs.Common.{◌≡◌, ℕ, List, [], ◌∷◌, ◌++◌, map, take, drop, append-nil, refl}
 use Rattle.std.specs.Prelude.{reverse}
 use Rattle.std.specs.List.{All}
 use Rattle.std.proofs.lemmas.List.Elements.{All-head, All-tail}
@@ -21,7 +21,6 @@ use Rattle.av_round_trip.proofs.Giving.{none, join, given_as, given_row, given_c
 use Rattle.av_round_trip.proofs.Types.{value_rows, values-law}
 use Rattle.av_form_laws.specs.Items.{HasAtMostOne, HasFirst}
 use Rattle.av_form_laws.specs.Lines.{first_text}
-use Rattle.av_named_laws.specs.Stacks.{several}
 
 module _ {most : ℕ} where
   pub first-read : (vs : List (List ℕ)) → HasFirst vs → IsNameOfValue (first_text vs)
@@ -40,7 +39,8 @@ module _ {most : ℕ} where
   optional-read (v ∷ w ∷ vs) one all = absurd (cc)
 
   pub several-read : (vs : List (List ℕ)) → HasFirst vs → All IsNameOfValue vs
-      → Gives most (a_value ∷ symbol.Rows (name.Value values_name.MoreValues) ∷ []) (values_pieces vs) (several vs)
+      → Gives most (a_value ∷ symbol.Rows (name.Value values_name.MoreValues) ∷ []) (values_pieces vs)
+      (value.Text (first_text vs) ∷ value.Texts (reverse (drop 1 vs)) ∷ [])
   unfolding values_pieces commas
   several-read [] first all = absurd first
   several-read (v ∷ vs) first all =

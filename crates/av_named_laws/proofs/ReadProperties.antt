@@ -49,14 +49,13 @@ use Rattle.av_round_trip.proofs.Elements.{given_truth, is_true-word}
 use Rattle.av_round_trip.proofs.Giving.{none, join, given_as, given_revalued, given_row, given_sign, given_space, given_spaced, given_square, given_token, given_word, MoreRows, Every, given_all, given_more, reverse-first}
 use Rattle.av_round_trip.proofs.Maps.{maps-law, sets-law}
 use Rattle.av_round_trip.proofs.Types.{integers-law, many_types-law, result_types-law, types-law}
-use Rattle.av_form_laws.specs.Attributes.{Constant, constant_attr, of_elements, of_number, truth}
+use Rattle.av_form_laws.specs.Attributes.{Constant, constant_attr, constant_type, of_elements, of_number, truth}
 use Rattle.av_form_laws.specs.Properties.{flag_entries, is_flag, is_word_of, long, place_in, said_by}
-use Rattle.av_form_laws.specs.Tables.{item_symbols}
+use Rattle.av_tree.specs.Forms.{item_symbols}
 use Rattle.av_form_laws.proofs.Entries.{out-number}
 use Rattle.av_dialects.specs.declared.item.Item.TheVariants as item
 use Rattle.av_named_laws.specs.Legible.{IsLegibleConstant}
 use Rattle.av_named_laws.specs.Shown.{IsKind, IsPredicate, SameProperty}
-use Rattle.av_named_laws.specs.Stacks.{constant_of}
 
 -- ---- a property by its name
 first-found : (text : List ℕ) (a : Attr) (es : List Named) → same text text ≡ true → property (entry text a ∷ es) text ≡ Some a
@@ -94,15 +93,15 @@ one-fits t (w ∷ ws) word all h = fits-either t w word ws (bytes_eq word w) ref
 
 predicates-fit : AllFit test.Predicate predicates
 unfolding keywords predicates
-predicates-fit = (refl, refl, refl, refl, refl, refl, refl, refl, refl, refl, tt)
+predicates-fit = (refl, (refl, (refl, (refl, (refl, (refl, (refl, (refl, (refl, (refl, tt))))))))))
 
 kinds-fit : AllFit test.Kind kind_words
 unfolding keywords kind_words
-kinds-fit = (refl, refl, refl, refl, refl, refl, refl, refl, refl, tt)
+kinds-fit = (refl, (refl, (refl, (refl, (refl, (refl, (refl, (refl, (refl, tt)))))))))
 
 flags-fit : AllFit test.OverflowFlag overflow_flags
 unfolding keywords overflow_flags
-flags-fit = (refl, refl, tt)
+flags-fit = (refl, (refl, tt))
 
 -- ---- the word of a predicate's number
 there-by : (w word : List ℕ) (ws : List (List ℕ)) (b : Bool) → bytes_eq word w ≡ b → (b || list_any (bytes_eq word) ws) ≡ true
@@ -124,6 +123,20 @@ unfolding word_of
 word-printed word h =
     ap word_in (out-number (pos (place_in predicates word)) long) ∙ ap word_if_any (word-there predicates word h) ∙ is-some-word word h
 
+one-angled : (word : List ℕ) → angled (word ∷ []) ≡ sign signs.OpenAngle ++ plain word ++ sign signs.CloseAngle
+unfolding commas behind
+one-angled word = ap (λ (ps : List Piece). sign signs.OpenAngle ++ ps ++ sign signs.CloseAngle) (append-nil (plain word))
+
+abbrev one_flag : List Symbol
+one_flag = symbol.Token test.OverflowFlag ∷ []
+
+flag-read : (most : ℕ) (word : List ℕ) → is_flag word ≡ true → Gives most one_flag (plain word) (value.Text word ∷ [])
+flag-read most word h = given_token test.OverflowFlag kinds.Word word (one-fits test.OverflowFlag overflow_flags word flags-fit h)
+
+each-flag : (most : ℕ) (words : List (List ℕ)) → list_all is_flag words ≡ true → Every most one_flag plain (λ (word : List ℕ). value.Text word ∷ []) words
+each-flag most [] h = tt
+each-flag most (word ∷ words) h = let two = both (is_flag word) (list_all is_flag words) h in (flag-read most word two.0, each-flag most words two.1)
+
 module _ {most : ℕ} where
   pub word-read : (k : Key) (word : List ℕ) → IsPredicate k → is_word_of k word ≡ true
       → Gives most (item_symbols (item.Word k)) (word_of (Some (said_by k word))) (value.Text word ∷ [])
@@ -132,10 +145,6 @@ module _ {most : ℕ} where
   word-read key.Kind word p h = absurd p
   word-read key.StaticPosition word p h = absurd p
   word-read key.Mask word p h = absurd p
-
-  one-angled : (word : List ℕ) → angled (word ∷ []) ≡ sign signs.OpenAngle ++ plain word ++ sign signs.CloseAngle
-  unfolding commas behind
-  one-angled word = ap (λ (ps : List Piece). sign signs.OpenAngle ++ ps ++ sign signs.CloseAngle) (append-nil (plain word))
 
   pub angled-read : (k : Key) (word : List ℕ) → IsKind k → is_word_of k word ≡ true
       → Gives most (item_symbols (item.Angled k)) (angled_of (Some (said_by k word))) (value.Text word ∷ [])
@@ -152,22 +161,12 @@ module _ {most : ℕ} where
   numbers-read k t ns short = given_as (numbers-some t ns) (given_square (given_all integer_rows number (integers-law most) ns short))
 
   -- ---- flags
-  abbrev one_flag : List Symbol
-  one_flag = symbol.Token test.OverflowFlag ∷ []
-
-  flag-read : (word : List ℕ) → is_flag word ≡ true → Gives most one_flag (plain word) (value.Text word ∷ [])
-  flag-read word h = given_token test.OverflowFlag kinds.Word word (one-fits test.OverflowFlag overflow_flags word flags-fit h)
-
   flag_rows : MoreRows most one_flag (name.Arith arith_name.MoreOverflowFlags) (λ (word : List ℕ). value.Text word ∷ []) value.Texts
   unfolding replaced on_top
   flag_rows = record {
     no_more = given_row (rule.Arith arith_rule.NoMoreOverflowFlags) refl tt none refl;
     next = λ x xs inner. given_row (rule.Arith arith_rule.NextOverflowFlag) refl tt inner refl;
   }
-
-  each-flag : (words : List (List ℕ)) → list_all is_flag words ≡ true → Every most one_flag plain (λ (word : List ℕ). value.Text word ∷ []) words
-  each-flag [] h = tt
-  each-flag (word ∷ words) h = let two = both (is_flag word) (list_all is_flag words) h in (flag-read word two.0, each-flag words two.1)
 
   pub flags-read : (words : List (List ℕ)) → list_all is_flag words ≡ true
       → Gives most (symbol.Rows (name.Arith arith_name.OptionalOverflow) ∷ []) (flags_of (property (flag_entries words) (codes "overflowFlags")))
@@ -181,7 +180,7 @@ module _ {most : ℕ} where
       ∙ flags-some (codes "#arith.overflow") (word ∷ words))
       (given_row (rule.Arith arith_rule.WrittenOverflow) refl tt
       (join (join given_space (given_word keyword.Overflow (codes "overflow") refl))
-      (join (join (given_sign signs.OpenAngle) (join (flag-read word two.0) (given_more flag_rows plain words (each-flag words two.1)))) (given_sign signs.CloseAngle)))
+      (join (join (given_sign signs.OpenAngle) (join (flag-read most word two.0) (given_more flag_rows plain words (each-flag most words two.1)))) (given_sign signs.CloseAngle)))
       (ap (λ (l : List (List ℕ)). Some (value.Entries (entry (codes "overflowFlags") (attr.Hash (codes "#arith.overflow") l) ∷ []) ∷ []))
       (ap reverse (reverse-first word words) ∙ reverse-reverse (word ∷ words))))
 
@@ -193,7 +192,7 @@ module _ {most : ℕ} where
       (marks-law types-law many_types-law result_types-law integers-law maps-law sets-law most es are)
 
   -- ---- constants
-  constant-spelled : (c : Constant) → IsLegibleConstant c → Gives most (symbol.Rows (name.Arith arith_name.Constant) ∷ []) (attribute (constant_attr c)) (constant_of c ∷ [])
+  constant-spelled : (c : Constant) → IsLegibleConstant c → Gives most (symbol.Rows (name.Arith arith_name.Constant) ∷ []) (attribute (constant_attr c)) (value.Constant (record { value = constant_attr c; ty = constant_type c }) ∷ [])
   unfolding typed replaced on_top
   constant-spelled (of_number z t) h =
       given_as (ap or_nothing (attr-number z t))
@@ -208,6 +207,6 @@ module _ {most : ℕ} where
       (ap (λ (t : Bool). Some (value.Constant (record { value = attr.Bool t; ty = None }) ∷ [])) (is_true-word b)))
 
   pub constant-read : (c : Constant) → IsLegibleConstant c
-      → Gives most (symbol.Rows (name.Arith arith_name.Constant) ∷ []) (constant_value (Some (constant_attr c))) (constant_of c ∷ [])
+      → Gives most (symbol.Rows (name.Arith arith_name.Constant) ∷ []) (constant_value (Some (constant_attr c))) (value.Constant (record { value = constant_attr c; ty = constant_type c }) ∷ [])
   unfolding constant_value
   constant-read c h = constant-spelled c h

@@ -38,8 +38,8 @@ use Rattle.av_round_trip.specs.Types.{IsScalar, IsType, a_type, scalar, mem_ref,
 use Rattle.av_round_trip.proofs.Giving.{none, join, given_as, given_row, given_comma, given_spaced, given_token}
 use Rattle.av_round_trip.proofs.Types.{given_mem_ref, given_vector, types-law, result_types-law}
 use Rattle.av_form_laws.specs.Items.{IsCondition, IsWanted, choice_types, is_wanted}
-use Rattle.av_form_laws.specs.Lines.{all_written}
-use Rattle.av_form_laws.specs.Tables.{item_symbols}
+use Rattle.av_tree.specs.Forms.{item_symbols}
+use Rattle.av_values.specs.Gifts.{all_written}
 use Rattle.av_named_laws.specs.Legible.{IsTypeIfAny}
 use Rattle.av_named_laws.specs.Shown.{said_at}
 
@@ -54,10 +54,15 @@ out-vector : (dims : List DimText) (elem : List ℕ) → out-TypeText (Vector di
 out-vector dims elem = ap out-TypeText (sym (rolled.rolls-Vector dims elem)) ∙ out-roll-TypeText (open_type.Vector dims elem)
 
 -- a type that is none of the wanted ones
-not-wanted : (w : Wanted) (t : TypeText) (open : TypeText-F TypeText) → out-TypeText t ≡ open → is_wanted w open ≡ false → IsWanted w t → ⊥
-not-wanted w t open is other h =
+not-wanted : (w : Wanted) (t : TypeText) (layer : TypeText-F TypeText) → out-TypeText t ≡ layer → is_wanted w layer ≡ false → IsWanted w t → ⊥
+not-wanted w t layer is other h =
     let no : true ≡ false = sym h ∙ ap (is_wanted w) is ∙ other in
     absurd (cc)
+
+written-pieces : (ts : List TypeText) → map known_type (all_written ts) ≡ map type_pieces ts
+unfolding known_type
+written-pieces [] = refl
+written-pieces (t ∷ ts) = ap (λ l. type_pieces t ∷ l) (written-pieces ts)
 
 module _ {most : ℕ} where
   -- ---- one type
@@ -112,11 +117,6 @@ module _ {most : ℕ} where
   choice-read (Some c) t h is k = chosen-by c t h is k
 
   -- ---- the types of results
-  written-pieces : (ts : List TypeText) → map known_type (all_written ts) ≡ map type_pieces ts
-  unfolding known_type
-  written-pieces [] = refl
-  written-pieces (t ∷ ts) = ap (λ l. type_pieces t ∷ l) (written-pieces ts)
-
   known-read : (ts : List TypeText) → All IsType ts
       → Gives most (symbol.Rows (name.Type types_name.ResultTypes) ∷ []) (known_results (all_written ts)) (value.Types (reverse ts) ∷ [])
   unfolding known_results

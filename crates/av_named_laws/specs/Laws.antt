@@ -3,13 +3,13 @@ use Rattle.std.specs.Prelude.{ℕ, ◌+◌, ◌≤◌, List, length, take, drop}
 use Rattle.av_dialects.specs.declared.item.Item.{Item}
 use Rattle.av_dialects.specs.Rows.{Part}
 use Rattle.av_dialects.specs.Types.{takes}
+use Rattle.av_tree.specs.Forms.{form_symbols, item_symbols}
+use Rattle.av_values.specs.Gifts.{Line}
 use Rattle.av_printer.specs.Operations.{Head}
 use Rattle.av_printer.specs.Parts.{item_pieces, parts_pieces, share}
 use Rattle.av_round_trip.specs.Giving.{Gives}
 use Rattle.av_form_laws.specs.Items.{Fits, taken}
-use Rattle.av_form_laws.specs.Lines.{Line}
 use Rattle.av_form_laws.specs.Rows.{Whole, values_of}
-use Rattle.av_form_laws.specs.Tables.{form_symbols, item_symbols}
 use Rattle.av_named_laws.specs.Legible.{AllLegible, IsLegible}
 use Rattle.av_named_laws.specs.Shown.{Shows, ShowsAll}
 use Rattle.av_named_laws.specs.Stacks.{all_stacked, stacked}

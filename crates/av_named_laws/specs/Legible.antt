@@ -8,6 +8,7 @@ use Rattle.av_dialects.specs.declared.item.Item.{Item}
 use Rattle.av_dialects.specs.declared.item.Item.TheVariants as item
 use Rattle.av_dialects.specs.Rows.{Part}
 use Rattle.av_dialects.specs.Types.{needs}
+use Rattle.av_values.specs.Gifts.{Line, front}
 use Rattle.av_printer.specs.Dictionaries.{in_order}
 use Rattle.av_print_laws.specs.ReadExpressions.{IsShortInteger}
 use Rattle.av_print_laws.specs.ReadTypes.{IsShortNumber}
@@ -17,7 +18,7 @@ use Rattle.av_round_trip.specs.Attributes.{AreEntries, IsElement}
 use Rattle.av_round_trip.specs.Subscripts.{IsSubscript}
 use Rattle.av_form_laws.specs.Attributes.{Applied, Constant, alias, first_applied, of_elements, of_number, truth, written_map, written_set}
 use Rattle.av_form_laws.specs.Items.{rest, taken}
-use Rattle.av_form_laws.specs.Lines.{Line, first_text, front}
+use Rattle.av_form_laws.specs.Lines.{first_text}
 use Rattle.av_form_laws.specs.Loops.{Carrying}
 use Rattle.av_form_laws.specs.Subscripts.{map_in}
 use Rattle.av_form_laws.specs.Values.{Of}

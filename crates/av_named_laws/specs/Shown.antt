@@ -11,11 +11,11 @@ use Rattle.av_dialects.specs.declared.item.Slot.{Slot}
 use Rattle.av_dialects.specs.declared.item.Slot.TheVariants as slot
 use Rattle.av_dialects.specs.Rows.{Part, property_of}
 use Rattle.av_dialects.specs.Types.{needs}
+use Rattle.av_values.specs.Gifts.{Line, args_in}
 use Rattle.av_printer.specs.Operations.{Head, property}
 use Rattle.av_printer.specs.Parts.{bound_name, bound_size}
 use Rattle.av_form_laws.specs.Items as items
-use Rattle.av_form_laws.specs.Lines.{Line, at_slot, first_slot}
-use Rattle.av_form_laws.specs.Loops.{args_in}
+use Rattle.av_form_laws.specs.Lines.{at_slot, first_slot}
 use Rattle.av_form_laws.specs.Properties.{first_flags, flag_entries}
 
 -- the type at a slot of a head, if there is such a slot
