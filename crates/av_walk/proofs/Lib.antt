@@ -2,4 +2,3 @@ pub mod Joined
 pub mod Steps
 pub mod Whole
 pub mod Trees
-pub mod Definitions

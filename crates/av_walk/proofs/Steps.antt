@@ -102,8 +102,7 @@ module _ (p : Site → Code → Bool) (most : ℕ) (places : Site → List Site)
     (has : (site : Site) → operations_in site.node ≤ most → length (places site) ≡ operations_in site.node)
     (counts : (site : Site) (known : Known) → operations_in site.node ≤ most → (makes site known).after.operations ≡ known.operations + operations_in site.node)
     (ends : (site : Site) (known : Known) → operations_in site.node ≤ most
-        → walk site known ≡ outcome_of known.operations (least_places p (places site) all_codes) (makes site known)) where
-
+    → walk site known ≡ outcome_of known.operations (least_places p (places site) all_codes) (makes site known)) where
   pub nodes-end : (before : Site) (nodes : List Node) (known : Known) → sum (map operations_in nodes) ≤ most
       → ops_walked walk before nodes known
       ≡ outcome_of known.operations (least_places p (in_order places before nodes) all_codes) (ops_in_order makes before nodes known)
@@ -118,10 +117,10 @@ module _ (p : Site → Code → Bool) (most : ℕ) (places : Site → List Site)
       let rest : sum (map operations_in nodes) ≤ most = omega (arith, split, h) in
       ap (λ o. next o (λ (made : Made Op). next (ops_walked walk later nodes made.after) (λ more. gives (in_front made more)))) (ends here known small)
       ∙ follows-as known.operations (length (places here)) (least_places p (places here) all_codes) (least_places p (in_order places later nodes) all_codes)
-        one others in_front (λ (made : Made Op). ops_walked walk later nodes made.after)
-        (nodes-end later nodes one.after rest
-        ∙ ap (λ k. outcome_of k (least_places p (in_order places later nodes) all_codes) others)
-          (counts here known small ∙ ap (λ n. known.operations + n) (sym (has here small))))
+      one others in_front (λ (made : Made Op). ops_walked walk later nodes made.after)
+      (nodes-end later nodes one.after rest
+      ∙ ap (λ k. outcome_of k (least_places p (in_order places later nodes) all_codes) others)
+      (counts here known small ∙ ap (λ n. known.operations + n) (sym (has here small))))
       ∙ ap (λ found. outcome_of known.operations found (in_front one others)) (sym (least-append p (places here) (in_order places later nodes) all_codes))
 
   pub region-end : (site : Site) (body : Body) (known : Known) → operations_within body ≤ most
@@ -130,7 +129,7 @@ module _ (p : Site → Code → Bool) (most : ℕ) (places : Site → List Site)
       let size = in-body body in
       ap (λ o. next o (λ ops. gives (region_of body known ops))) (nodes-end (within site body) (inside body).nodes (opened body known) (omega (arith, size, h)))
       ∙ changed-as known.operations (least_places p (region_places places site body) all_codes)
-        (ops_in_order makes (within site body) (inside body).nodes (opened body known)) (region_of body known)
+      (ops_in_order makes (within site body) (inside body).nodes (opened body known)) (region_of body known)
 
   pub bodies-end : (site : Site) (bodies : List Body) (known : Known) → sum (map operations_within bodies) ≤ most
       → regions_walked walk site bodies known
@@ -147,9 +146,9 @@ module _ (p : Site → Code → Bool) (most : ℕ) (places : Site → List Site)
       let more : sum (map operations_within bodies) ≤ most = omega (arith, split, h) in
       ap (λ o. next o (λ (made : Made Region). next (regions_walked walk site bodies made.after) (λ m. gives (in_front made m)))) (region-end site body known small)
       ∙ follows-as known.operations (length (region_places places site body)) (least_places p (region_places places site body) all_codes) (least_places p rest all_codes)
-        one others in_front (λ (made : Made Region). regions_walked walk site bodies made.after)
-        (bodies-end site bodies one.after more
-        ∙ ap (λ k. outcome_of k (least_places p rest all_codes) others)
-          (region-count most makes counts site body known small
-          ∙ ap (λ n. known.operations + n) (size ∙ sym (nodes-have most places has (within site body) (inside body).nodes inner))))
+      one others in_front (λ (made : Made Region). regions_walked walk site bodies made.after)
+      (bodies-end site bodies one.after more
+      ∙ ap (λ k. outcome_of k (least_places p rest all_codes) others)
+      (region-count most makes counts site body known small
+      ∙ ap (λ n. known.operations + n) (size ∙ sym (nodes-have most places has (within site body) (inside body).nodes inner))))
       ∙ ap (λ found. outcome_of known.operations found (in_front one others)) (sym (least-append p (region_places places site body) rest all_codes))

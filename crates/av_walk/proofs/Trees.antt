@@ -36,6 +36,7 @@ passing p (b ∷ bs) h k = by (p b) refl (passing p bs) h k
     rest : (found : Option ℕ) → option_map suc found ≡ None → found ≡ None
     rest None e = refl
     rest (Some j) e = cc
+
     by : (here : Bool) → p b ≡ here → (first_place p bs ≡ None → (j : ℕ) → passes_at p bs j ≡ false)
         → (if here then Some 0 else option_map suc (first_place p bs)) ≡ None → (j : ℕ) → passes_at p (b ∷ bs) j ≡ false
     by true e later none j = cc
@@ -118,7 +119,7 @@ module _ (tree : Tree) (mode : Mode) (all : List Site) (most : ℕ) where
       (funcs-end all (suc most) most (within root body) 1 (inside body).nodes (omega (arith, split, size, k)) (omega (arith, split, size, k)))
       ∙ after-module found funcs module_of
       ∙ ap (λ places. ends_as (option_map failing (option_map after_one (least_places (breaks all) places all_codes))) (module_of funcs))
-        (sym (same-end (region_places (sites_from most) root body)))
+      (sym (same-end (region_places (sites_from most) root body)))
       ∙ ap (λ fs. ends_as (option_map failing (option_map after_one (least_places (breaks all) (places_of (body ∷ [])) all_codes))) (module_of fs)) (sym (same-end funcs))
 
   ends : (first : Option ℕ) → first_failing all (first_site tree mode) ≡ first → sum (map operations_within (fields tree.root).regions) ≤ most

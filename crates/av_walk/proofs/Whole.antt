@@ -98,8 +98,8 @@ module _ (all : List Site) where
       let others = funcs_in_order nested later then_number nodes in
       ap (λ o. next o (λ func. next (funcs_walked all nested later then_number nodes) (λ funcs. gives (func ∷ funcs)))) (func-ends nested most here number small short)
       ∙ follows-as number (length (sites_from most here)) (least_places (breaks all) (sites_from most here) all_codes)
-        (least_places (breaks all) (in_order (sites_from most) later nodes) all_codes)
-        (func_from nested here number) others (λ func funcs. func ∷ funcs) (λ func. funcs_walked all nested later then_number nodes)
-        (funcs-end nested most later then_number nodes (omega (arith, split, h)) (omega (arith, split, k))
-        ∙ ap (λ n. outcome_of (number + n) (least_places (breaks all) (in_order (sites_from most) later nodes) all_codes) others) (sym (has-places most here short)))
+      (least_places (breaks all) (in_order (sites_from most) later nodes) all_codes)
+      (func_from nested here number) others (λ func funcs. func ∷ funcs) (λ func. funcs_walked all nested later then_number nodes)
+      (funcs-end nested most later then_number nodes (omega (arith, split, h)) (omega (arith, split, k))
+      ∙ ap (λ n. outcome_of (number + n) (least_places (breaks all) (in_order (sites_from most) later nodes) all_codes) others) (sym (has-places most here short)))
       ∙ ap (λ found. outcome_of number found (func_from nested here number ∷ others)) (sym (least-append (breaks all) (sites_from most here) (in_order (sites_from most) later nodes) all_codes))
