@@ -29,7 +29,7 @@ abbrev nest : ℕ → List Node
 nest zero = []
 nest (suc n) = loop_over (counter n) (number (pos 1) index) (pos 0 ∷ pos 0 ∷ pos 0 ∷ []) (nest n ++ yield ∷ []) ∷ []
 
-abbrev small_shape : Mode
+abbrev pub small_shape : Mode
 small_shape = mode.Scalar (record { sizes = 4 ∷ []; scalable = false })
 
 -- with the regions of the module and of the function 32 in Scalar mode, and 40 in the others
