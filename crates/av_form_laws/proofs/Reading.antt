@@ -3,7 +3,7 @@ use Rattle.std.proofs.Common.{◌≡◌, ℕ, ◌||◌, Bool, true, false, List,
 use Rattle.std.specs.Prelude.{if◌then◌else◌, pos}
 use Rattle.std.proofs.lemmas.List.{append-nil, reverse-reverse}
 use Rattle.av_tree.specs.declared.attribute.Attr.TheVariants as attr
-use Rattle.av_tree.specs.declared.node.Node.{roll-Node}
+use Rattle.av_tree.specs.declared.node.Node.{out-Node, roll-Node}
 use Rattle.av_tree.specs.declared.node.BodyArg.{BodyArg}
 use Rattle.av_tree.specs.declared.table.Symbol.{Symbol}
 use Rattle.av_tree.specs.declared.table.Symbol.TheVariants as symbol
@@ -28,9 +28,10 @@ use Rattle.av_form_laws.specs.Grammar.{Always, Gives, Makes, Several, a_word, an
 use Rattle.av_form_laws.specs.Items.{HasFirst, give, opened}
 use Rattle.av_form_laws.specs.Loops.{Carrying, args_of, inits_of, types_of}
 use Rattle.av_form_laws.specs.Properties.{flag_entries, is_word_of, long, place_in}
-use Rattle.av_form_laws.specs.Reading.{ReadingLaw, angled_values, carried_of, form_values, head_at, item_values, joined, lead_values, pair_of, type_values, word_values}
-use Rattle.av_form_laws.specs.Rows.{all_opened, blank, given as given_all}
+use Rattle.av_form_laws.specs.Reading.{ReadingLaw, RowLaw, angled_values, carried_of, form_values, head_at, item_values, joined, lead_values, pair_of, type_values, word_values}
+use Rattle.av_form_laws.specs.Rows.{Head, all_opened, blank, given as given_all, made, values_of, words_of}
 use Rattle.av_form_laws.specs.Values.{Of, Values}
+use Rattle.av_form_laws.proofs.Forms.{form-law}
 use Rattle.av_form_laws.specs.Words.{Word, single, value}
 
 -- ---- values of symbols
@@ -241,3 +242,13 @@ module _ (number place : ℕ) where
 
 pub reading-law : ReadingLaw
 reading-law number place ws vs m = ap roll-Node (parts-same number place (form_of number) [] ws vs m)
+
+pub row-law : RowLaw
+row-law number node same h =
+    let place = (out-Node node).place in
+    let values = values_of (form_of number) (out-Node node) in
+    let read = form-law (results_at number) (form_of number) node h in (
+  read.0,
+  sym (reading-law number place (words_of (form_of number) (out-Node node)) values read.0)
+      ∙ ap (λ (head : Head). roll-Node (made head (results_at number) (form_of number) values)) (sym same) ∙ read.1,
+)

@@ -1,7 +1,7 @@
 -- What is made of the values of a form's parts is what the row of the operation is defined to make of the values of its symbols. A list among these
 -- holds its last item first.
 use Rattle.std.specs.Prelude.{ℕ, pos, ◌≡◌, List, [], ◌∷◌, ◌++◌, drop, map, reverse}
-use Rattle.av_tree.specs.declared.node.Node.{roll-Node}
+use Rattle.av_tree.specs.declared.node.Node.{Node, out-Node, roll-Node}
 use Rattle.av_tree.specs.declared.table.Symbol.{Symbol}
 use Rattle.av_tree.specs.declared.table.Symbol.TheVariants as symbol
 use Rattle.av_tree.specs.declared.written.TypeText.{TypeText}
@@ -25,7 +25,7 @@ use Rattle.av_form_laws.specs.Grammar.{Makes}
 use Rattle.av_form_laws.specs.Lines.{first_text}
 use Rattle.av_form_laws.specs.Loops.{Carrying, types_of}
 use Rattle.av_form_laws.specs.Properties.{flag_entries}
-use Rattle.av_form_laws.specs.Rows.{Head, made}
+use Rattle.av_form_laws.specs.Rows.{FitsRow, Head, head_of, made, values_of, words_of}
 use Rattle.av_form_laws.specs.Values.{Of, Values}
 use Rattle.av_form_laws.specs.Words.{Word}
 
@@ -119,3 +119,10 @@ abbrev pub ReadingLaw : Type 0
 ReadingLaw = (number place : ℕ) (ws : List Word) (vs : Values (form_of number)) → Makes (form_of number) ws vs
     → roll-Node (made (head_at number place) (results_at number) (form_of number) vs)
     ≡ row_made number place (form_values (form_of number) vs)
+
+-- So an operation that fits the form of its row, and has no names of results yet, is what the row makes of the values of the words that are printed for it.
+abbrev pub RowLaw : Type 0
+RowLaw = (number : ℕ) (node : Node) → head_of (out-Node node) ≡ head_at number (out-Node node).place
+    → FitsRow (results_at number) (form_of number) (out-Node node)
+    → Makes (form_of number) (words_of (form_of number) (out-Node node)) (values_of (form_of number) (out-Node node))
+    × (row_made number (out-Node node).place (form_values (form_of number) (values_of (form_of number) (out-Node node))) ≡ node)

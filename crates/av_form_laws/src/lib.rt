@@ -3,7 +3,7 @@
 
 ghost use Rattle.av_form_laws.specs.Examples.{LineExamples};
 ghost use Rattle.av_form_laws.specs.FormLaws.{FormLaw};
-ghost use Rattle.av_form_laws.specs.Reading.{ReadingLaw};
+ghost use Rattle.av_form_laws.specs.Reading.{ReadingLaw, RowLaw};
 
 /// The words that are printed for an operation that fits its form have values, of which reading makes the operation again.
 pub fn forms_are_read_as_printed()
@@ -13,6 +13,11 @@ pub fn forms_are_read_as_printed()
 /// This operation is the one that the row of the operation is defined to make of the same values.
 pub fn forms_make_what_rows_make()
     ensures { ReadingLaw }
+{}
+
+/// So an operation that fits the form of its row is what the row makes of the values of the words that are printed for it.
+pub fn rows_make_what_fits()
+    ensures { RowLaw }
 {}
 
 /// Operations that fit forms, and others that don't, for the kinds of items; and each word that a property may have fits.
