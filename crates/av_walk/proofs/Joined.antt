@@ -1,9 +1,8 @@
 -- The first that fails among some things and others behind them, and what a walk over both gives.
-use Rattle.std.proofs.Common.{◌≡◌, ◌∙◌, ℕ, zero, suc, ◌+◌, Bool, List, [], ◌∷◌, ◌++◌, length, Option, Some, None, refl, ap, sym, subst, arith}
+use Rattle.std.proofs.Common.{◌≡◌, ◌∙◌, ℕ, suc, ◌+◌, Bool, List, [], ◌∷◌, ◌++◌, length, Option, Some, None, refl, ap, subst, arith}
 use Rattle.std.specs.Option.{option_map}
 use Rattle.av_rules.specs.Least.{Places, after_one, first_place, found_first, least_places}
-use Rattle.av_elaboration.specs.Elaboration.{Known, Made}
-use Rattle.av_walk.specs.Walks.{Outcome, checked, fails, followed, gives, in_front, next}
+use Rattle.av_walk.specs.Walks.{Outcome, checked, fails, gives, next}
 
 -- ---- among things and others behind them
 abbrev pub past : ℕ → Places → Places

@@ -1,5 +1,5 @@
 -- The walk along operations and regions: where each operation ends as it is to, so do all.
-use Rattle.std.proofs.Common.{◌≡◌, ◌∙◌, ℕ, zero, suc, ◌+◌, ◌≤◌, Bool, List, [], ◌∷◌, length, map, nat_eq, refl, ap, sym, arith, length-append}
+use Rattle.std.proofs.Common.{◌≡◌, ◌∙◌, ℕ, ◌+◌, ◌≤◌, Bool, List, [], ◌∷◌, length, map, nat_eq, refl, ap, sym, arith, length-append}
 use Rattle.std.specs.Prelude.{flat_map, sum}
 use Rattle.std.proofs.lemmas.List.Sums.{sum_by-cons}
 use Rattle.av_ir.specs.declared.module.Op.{Op}

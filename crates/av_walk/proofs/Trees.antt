@@ -1,5 +1,5 @@
 -- The walk over a whole tree.
-use Rattle.std.proofs.Common.{◌≡◌, ◌∙◌, ℕ, zero, suc, ◌+◌, ◌≤◌, Bool, true, false, ◌&&◌, List, [], ◌∷◌, ◌++◌, length, map, slice_get, Option, Some, None, refl, ap, sym, subst, true≢false, arith}
+use Rattle.std.proofs.Common.{◌≡◌, ◌∙◌, ℕ, zero, suc, ◌+◌, ◌≤◌, Bool, true, false, ◌&&◌, List, [], ◌∷◌, ◌++◌, length, map, Option, Some, None, refl, ap, sym, true≢false, arith}
 use Rattle.std.specs.Prelude.{flat_map, not, sum, ◌==◌, if◌then◌else◌}
 use Rattle.std.specs.List.{list_all}
 use Rattle.std.specs.Option.{option_map, option_map_or}
@@ -13,16 +13,15 @@ use Rattle.av_rules.specs.Least.{Places, after_one, first_place, found_first, le
 use Rattle.av_rules.specs.Agreement.{argument_types, if_known, results_known, types_written}
 use Rattle.av_rules.specs.Limits.{has_function_types, takes_operation, takes_result, takes_type}
 use Rattle.av_rules.specs.Places.{Site, site_row}
-use Rattle.av_rules.specs.Regions.{has_regions}
 use Rattle.av_rules.specs.Rows.{Row, is_module, region_count}
-use Rattle.av_rules.specs.Sites.{first_site, in_order, operations_in, operations_within, sites, sites_from, within}
+use Rattle.av_rules.specs.Sites.{first_site, operations_in, operations_within, sites_from, within}
 use Rattle.av_rules.specs.Views.{fields, inside}
 use Rattle.av_signatures.specs.declared.signature.Role.{Role}
 use Rattle.av_signatures.specs.declared.signature.Role.TheVariants as role
 use Rattle.av_tree.specs.declared.node.Body.{Body}
 use Rattle.av_tree.specs.declared.node.Tree.{Tree}
 use Rattle.av_elaboration.specs.Elaboration.{elab, funcs_in_order}
-use Rattle.av_walk.specs.Walks.{Outcome, checked, fails, first_body, first_failing, gives, next, tree_walked}
+use Rattle.av_walk.specs.Walks.{checked, fails, first_body, first_failing, gives, next}
 use Rattle.av_walk.specs.WalkLaws.{WalkLaw, ends_as}
 use Rattle.av_walk.proofs.Joined.{fails-at, outcome_of}
 use Rattle.av_walk.proofs.Steps.{in-body, in-node, region_places, sum-more}

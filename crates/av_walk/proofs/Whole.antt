@@ -1,17 +1,13 @@
 -- The walk over operations and over functions.
-use Rattle.std.proofs.Common.{◌≡◌, ◌∙◌, ℕ, zero, suc, ◌+◌, ◌≤◌, Bool, List, [], ◌∷◌, ◌++◌, length, map, nat_eq, Option, Some, None, refl, ap, sym, arith, length-append}
+use Rattle.std.proofs.Common.{◌≡◌, ◌∙◌, ℕ, zero, suc, ◌+◌, ◌≤◌, List, [], ◌∷◌, length, map, nat_eq, refl, ap, sym, arith}
 use Rattle.std.specs.Prelude.{flat_map, sum}
-use Rattle.av_ir.specs.declared.module.Func.{Func}
-use Rattle.av_ir.specs.declared.module.Op.{Op}
-use Rattle.av_ir.specs.declared.module.Region.{Region}
-use Rattle.av_rules.specs.Fails.{Code, all_codes, breaks}
+use Rattle.av_rules.specs.Fails.{all_codes, breaks}
 use Rattle.av_rules.specs.Least.{least_places}
 use Rattle.av_rules.specs.Places.{Site}
-use Rattle.av_rules.specs.Sites.{behind, in_order, operations_in, operations_within, sites_from, within}
-use Rattle.av_rules.specs.Views.{fields, inside}
-use Rattle.av_tree.specs.declared.node.Body.{Body}
+use Rattle.av_rules.specs.Sites.{behind, in_order, operations_in, operations_within, sites_from}
+use Rattle.av_rules.specs.Views.{fields}
 use Rattle.av_tree.specs.declared.node.Node.{Node}
-use Rattle.av_elaboration.specs.Elaboration.{Known, Made, begun, first_known, func_from, func_of, funcs_in_order, op_from, regions_in_order, with_regions}
+use Rattle.av_elaboration.specs.Elaboration.{Known, begun, first_known, func_from, func_of, funcs_in_order, op_from, regions_in_order, with_regions}
 use Rattle.av_walk.specs.Walks.{first_failing, func_walked, funcs_walked, gives, next, op_walked, regions_walked}
 use Rattle.av_walk.proofs.Joined.{checked-as, follows-as, least-append, outcome_of}
 use Rattle.av_walk.proofs.Steps.{bodies-count, bodies-end, bodies-have, in-node, region_places, sum-more}

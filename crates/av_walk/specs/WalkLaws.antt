@@ -1,5 +1,5 @@
 -- What the walk over a tree gives: its module where no code fails, else the least operation with its least code.
-use Rattle.std.specs.Prelude.{ℕ, ◌≡◌, Option, Some, None}
+use Rattle.std.specs.Prelude.{◌≡◌, Option, Some, None}
 use Rattle.av_ir.specs.declared.module.Module.{Module}
 use Rattle.av_rules.specs.declared.mode.Mode.{Mode}
 use Rattle.av_rules.specs.Fails.{Failing, least}
