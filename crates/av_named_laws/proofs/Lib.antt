@@ -4,6 +4,5 @@ pub mod ReadProperties
 pub mod ReadMaps
 pub mod ReadSubscripts
 pub mod ReadBounds
-pub mod ReadCarried
 pub mod Operands
 pub mod Parts

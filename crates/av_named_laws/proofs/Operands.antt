@@ -15,7 +15,7 @@ use Rattle.av_named_laws.specs.Shown.{Shows}
 
 -- ---- how many there are
 -- as many as stay, and one more where the item takes one
-abbrev Leaves : Item → ℕ → Line → Type 0
+abbrev pub Leaves : Item → ℕ → Line → Type 0
 Leaves i k n = length (rest i k n).operands + takes i ≤ length n.operands
 
 some-left : {A : Type 0} (k : ℕ) (xs : List A) → length (drop k xs) + 0 ≤ length xs
@@ -40,7 +40,7 @@ more-taken k (x ∷ xs) h = let e : length (back k xs) ≡ length xs - (length x
 same-left : (xs ys : List (List ℕ)) → xs ≡ ys → length xs + 0 ≤ length ys
 same-left xs ys e = let f : length xs ≡ length ys = ap length e in omega arith
 
-leaves : (i : Item) (k : ℕ) (n : Line) → Fits i k n → Leaves i k n
+pub leaves : (i : Item) (k : ℕ) (n : Line) → Fits i k n → Leaves i k n
 leaves (item.Operand t) k n h = one-taken n.operands h
 leaves item.OptionalOperand k n h = some-left (length n.operands - k) n.operands
 leaves item.Operands k n h = front-taken k n.operands h

@@ -1,9 +1,9 @@
 -- The carried values of loops are read as they are printed: each pair before the types, which stand one behind another like the pairs.
-use Rattle.std.proofs.Common.{arith, ◌≡◌, ℕ, ◌≤◌, suc, List, [], ◌∷◌, ◌++◌, length, map, Option, None, Some, append_assoc, append-nil, refl, sym, ap, subst, ◌∙◌}
+use Rattle.std.proofs.Common.{arith, ◌≡◌, ℕ, ◌≤◌, suc, List, [], ◌∷◌, ◌++◌, length, drop, map, Option, None, Some, append_assoc, append-nil, refl, sym, ap, subst, ◌∙◌}
 use Rattle.std.specs.Prelude.{codes, reverse}
 use Rattle.std.specs.List.{All}
 use Rattle.std.proofs.lemmas.List.{length-map, length-reverse, map-append, reverse-append, reverse-reverse}
-use Rattle.std.proofs.lemmas.List.Elements.{All-append, All-cons, All-head, All-nil, All-reverse, All-tail}
+use Rattle.std.proofs.lemmas.List.Elements.{All-append, All-cons, All-head, All-nil, All-tail}
 use Rattle.av_lex.specs.declared.token.Kind.TheVariants as kinds
 use Rattle.av_lex.specs.declared.token.Sign.TheVariants as signs
 use Rattle.av_tree.specs.declared.class.Keyword.TheVariants as keyword
@@ -17,7 +17,7 @@ use Rattle.av_tree.specs.declared.table.affine.AffineRule.TheVariants as affine_
 use Rattle.av_tree.specs.declared.table.values.ValueName.TheVariants as values_name
 use Rattle.av_tree.specs.declared.written.TypeText.{TypeText}
 use Rattle.av_derive.specs.ClassOf.{keywords}
-use Rattle.av_printer.specs.Pieces.{Piece, behind, comma, commas, plain, sign, space, spaced, token}
+use Rattle.av_printer.specs.Pieces.{Piece, behind, comma, commas, in_round, plain, sign, space, spaced, token}
 use Rattle.av_printer.specs.Types.{type_pieces}
 use Rattle.av_printer.specs.Expressions.{value as value_pieces}
 use Rattle.av_printer.specs.Operations.{carried, carried_behind, carried_in_round, carried_pair, known_in_round, known_type, known_types}
@@ -169,6 +169,33 @@ types-all [] all = All-nil IsType
 types-all (c ∷ cs) all =
     All-cons IsType c.0.ty (types_of cs) (All-head IsLegibleCarrying c cs all).1 (types-all cs (All-tail IsLegibleCarrying c cs all))
 
+all-reverse : {A : Type 0} (P : A → Type 0) (xs : List A) → All P xs → All P (reverse xs)
+all-reverse P [] all = all
+all-reverse P (x ∷ xs) all =
+    subst (All P) (reverse-first x xs)
+    (All-append P (reverse xs) (x ∷ []) (all-reverse P xs (All-tail P x xs all)) (All-cons P x [] (All-head P x xs all) (All-nil P)))
+
+some-types : (c : Carrying) (cs : List Carrying) → 1 ≤ length (types_of (c ∷ cs))
+some-types c cs = omega arith
+
+abbrev shape : List Piece → List Piece → List Piece
+shape pairs types = space ++ plain (codes "iter_args") ++ in_round pairs ++ spaced (sign signs.Arrow) ++ in_round types
+
+shaped : (args : List BodyArg) (c : Carrying) (cs : List Carrying) (ts : List (Option TypeText))
+    → carried_behind args (inits_of (c ∷ cs)) ts ≡ shape (commas (carried (drop 1 args) (inits_of (c ∷ cs)))) (commas (map known_type ts))
+unfolding carried_behind carried_in_round known_in_round known_types
+shaped args c cs ts = refl
+
+pairs-shown : (cs : List Carrying) (args : List BodyArg) → args ≡ args_of cs → commas (carried args (inits_of cs)) ≡ commas (map pair_pieces cs)
+pairs-shown cs args e = ap (λ (l : List BodyArg). commas (carried l (inits_of cs))) e ∙ ap commas (pairs-are cs)
+
+carried-shown : (c : Carrying) (cs : List Carrying) (args : List BodyArg) → drop 1 args ≡ args_of (c ∷ cs)
+    → carried_behind args (inits_of (c ∷ cs)) (all_written (types_of (c ∷ cs))) ≡ shape (commas (map pair_pieces (c ∷ cs))) (commas (map type_pieces (types_of (c ∷ cs))))
+carried-shown c cs args e =
+    shaped args c cs (all_written (types_of (c ∷ cs)))
+    ∙ ap (λ (l : List Piece). shape l (commas (map known_type (all_written (types_of (c ∷ cs)))))) (pairs-shown (c ∷ cs) (drop 1 args) e)
+    ∙ ap (λ (l : List (List Piece)). shape (commas (map pair_pieces (c ∷ cs))) (commas l)) (written-pieces (types_of (c ∷ cs)))
+
 module _ {most : ℕ} where
   by-types : (c : Carrying) (cs : List Carrying) (types : Types (types_of (c ∷ cs))) → All IsLegibleCarrying (c ∷ cs)
       → Gives most (affine affine_name.Carried) (commas (map pair_pieces (c ∷ cs)) ++ between ++ commas (map type_pieces (types_of (c ∷ cs))))
@@ -182,4 +209,27 @@ module _ {most : ℕ} where
       (given_revalued
       (ap (λ (ts : List TypeText). value.Carried (record { pairs = reverse (map pair_of (c ∷ cs)); types = ts })) (sym types.are))
       (several-read c cs types.last types.others (omega arith) all
-      (subst (All IsType) (ap reverse types.are ∙ reverse-reverse (types.last ∷ types.others)) (All-reverse IsType (types_of (c ∷ cs)) (types-all (c ∷ cs) all)))))
+      (subst (All IsType) (ap reverse types.are ∙ reverse-reverse (types.last ∷ types.others)) (all-reverse IsType (types_of (c ∷ cs)) (types-all (c ∷ cs) all)))))
+
+  whole-read : (pairs types : List Piece) (v : Carried) → Gives most (affine affine_name.Carried) (pairs ++ between ++ types) (value.Carried v ∷ [])
+      → Gives most (affine affine_name.OptionalIterArgs) (shape pairs types) (value.Carried v ∷ [])
+  unfolding keywords replaced on_top
+  whole-read pairs types v inner =
+      given_as
+      (brackets (space ++ plain (codes "iter_args")) (sign signs.OpenRound) pairs (sign signs.CloseRound) (spaced (sign signs.Arrow)) (sign signs.OpenRound) types)
+      (given_row (rule.Affine affine_rule.WrittenIterArgs) refl tt
+      (join (join (join given_space (given_word keyword.IterArgs (codes "iter_args") refl)) (given_sign signs.OpenRound))
+      (join inner (given_sign signs.CloseRound)))
+      refl)
+
+  none-read : (args : List BodyArg) → Gives most (affine affine_name.OptionalIterArgs) (carried_behind args [] []) (value.Carried (carried_of []) ∷ [])
+  unfolding carried_behind replaced on_top
+  none-read args = given_row (rule.Affine affine_rule.NoIterArgs) refl tt none refl
+
+  pub carried-read : (cs : List Carrying) (args : List BodyArg) → drop 1 args ≡ args_of cs → All IsLegibleCarrying cs
+      → Gives most (affine affine_name.OptionalIterArgs) (carried_behind args (inits_of cs) (all_written (types_of cs))) (value.Carried (carried_of cs) ∷ [])
+  carried-read [] args e all = none-read args
+  carried-read (c ∷ cs) args e all =
+      given_as (carried-shown c cs args e)
+      (whole-read (commas (map pair_pieces (c ∷ cs))) (commas (map type_pieces (types_of (c ∷ cs)))) (carried_of (c ∷ cs))
+      (by-types c cs (types-of (types_of (c ∷ cs)) (reverse (types_of (c ∷ cs))) refl (length-reverse (types_of (c ∷ cs))) (some-types c cs)) all))
