@@ -62,7 +62,7 @@ put-operands (slot.Input i) t n = refl
 put-operands (slot.LastInput i) t n = refl
 put-operands slot.Output t n = refl
 
-cleared-operands : (s : Slots) (n : Line) → (cleared s n).operands ≡ n.operands
+pub cleared-operands : (s : Slots) (n : Line) → (cleared s n).operands ≡ n.operands
 cleared-operands (slots.One a) n = put-operands a None n
 cleared-operands (slots.Two a b) n = put-operands b None (put_at_slot a None n) ∙ put-operands a None n
 cleared-operands (slots.Three a b c) n =

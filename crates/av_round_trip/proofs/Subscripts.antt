@@ -45,19 +45,19 @@ rows x = symbol.Rows (name.Subscript x)
 
 -- ---- what is read, by its parts
 module _ (at : List ℕ → Expression) where
-  read-name : (text : List ℕ) → read_with at (Name text) ≡ at text
+  pub read-name : (text : List ℕ) → read_with at (Name text) ≡ at text
   unfolding read_with
   read-name text = ap (fold-ExprText Expression (read_step at)) (sym (rolls-Name text)) ∙ fold-roll-ExprText Expression (read_step at) (open_expr.Name text)
 
-  read-const : (z : ℤ) → read_with at (Const z) ≡ whole (Const z)
+  pub read-const : (z : ℤ) → read_with at (Const z) ≡ whole (Const z)
   unfolding read_with
   read-const z = ap (fold-ExprText Expression (read_step at)) (sym (rolls-Const z)) ∙ fold-roll-ExprText Expression (read_step at) (open_expr.Const z)
 
-  read-neg : (a : ExprText) → read_with at (Neg a) ≡ record { expr = Neg (read_with at a).expr; leaves = (read_with at a).leaves }
+  pub read-neg : (a : ExprText) → read_with at (Neg a) ≡ record { expr = Neg (read_with at a).expr; leaves = (read_with at a).leaves }
   unfolding read_with
   read-neg a = ap (fold-ExprText Expression (read_step at)) (sym (rolls-Neg a)) ∙ fold-roll-ExprText Expression (read_step at) (open_expr.Neg a)
 
-  read-calculation : (o : Operator) (a b : ExprText)
+  pub read-calculation : (o : Operator) (a b : ExprText)
       → read_with at (calculation o a b) ≡ with_part (read_with at a) (record { operator = o; right = read_with at b })
   unfolding read_with
   read-calculation operator.Add a b = ap (fold-ExprText Expression (read_step at)) (sym (rolls-Add a b)) ∙ fold-roll-ExprText Expression (read_step at) (open_expr.Add a b)
