@@ -11,10 +11,8 @@ use av_signatures::{Ending, Role, Signature};
 
 /// Whether an operation is a terminator and the last of a region of an operation that it ends.
 pub fn is_in_place(row: &Signature, is_last: bool, holder: Option<Holder>) -> bool
-    ensures {
-        (name own : _) (site : _)
-        → result ≡ is_in_place (row_with name row.now) (record site { is_last = is_last; holder = option_map (holder_with own) holder.entry })
-    }
+    ensures { (name own : _) (site : _)
+        → result ≡ is_in_place (row_with name row.now) (record site { is_last = is_last; holder = option_map (holder_with own) holder.entry }) }
 {
     match holder {
         Some(holder) => is_last && is_end_of_holder(row.role, holder),

@@ -28,7 +28,9 @@ pub use type_views::{
     is_vector, part_of, rank_of, size_at, size_count, spelled, view_of, with_elements,
 };
 pub use typed_results::{ResultTypes, part_at, result_at, result_count, result_types};
-pub use typing::{carried_count, carried_types, has_segments, least, type_at, type_in, written_result};
+pub use typing::{
+    carried_count, carried_types, has_segments, least, type_at, type_in, written_result,
+};
 pub use views::{
     args, attrs, in_types, name, nodes, operands, out_types, properties, regions, results,
 };
