@@ -24,3 +24,10 @@ module _ (a b c d e f : Bool) where
 pub unwrapped : {A : Type 0} (o : Option (List A)) → unwrap_or o [] ≡ option_map_or (λ list. list) o []
 unwrapped None = refl
 unwrapped (Some list) = refl
+
+pub both_swapped : (a b c : Bool) → (a && c && b) ≡ (a && b && c)
+both_swapped true true true = refl
+both_swapped true true false = refl
+both_swapped true false true = refl
+both_swapped true false false = refl
+both_swapped false b c = refl

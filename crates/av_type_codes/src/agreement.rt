@@ -1,11 +1,12 @@
 //! V6: whether the types of an operation agree with each other, with what is written, with its regions
 //! and with its holder.
 
-ghost use Rattle.std.specs.Prelude.{◌≡◌, ◌&&◌, [], length, option_map, true, unwrap_or};
+ghost use Rattle.std.specs.Prelude.{◌≡◌, ◌&&◌, ◌==◌, [], length, option_map, true, unwrap_or};
 ghost use Rattle.std.specs.List.{list_all};
 ghost use Rattle.std.specs.Option.{option_map_or};
 ghost use Rattle.std.specs.Cmp.Lexicographic.{pointwise};
-ghost use Rattle.av_rules.specs.Agreement.{asks_types, between, if_both, if_known, is_of, is_pair, is_written_as, types_agree};
+ghost use Rattle.av_rules.specs.Agreement.{asks_types, between, if_both, if_known, is_of, is_pair, is_written_as, types_agree, writes_types};
+ghost use Rattle.av_rules.specs.Counts.{count_from};
 ghost use Rattle.av_rules.specs.Places.{operand_types};
 ghost use Rattle.av_rules.specs.Typing.{index_type, result_types, type_at};
 ghost use Rattle.av_rules.specs.Views.{fields};
@@ -27,7 +28,7 @@ use av_sites::{
     type_at, view_of,
 };
 use av_tree::{Node, TypeText};
-use av_written::{every_result, every_written};
+use av_written::{count_from, every_result, every_written};
 
 /// Whether the types of an operation agree, whose operands and results have these types.
 pub fn types_agree(
@@ -49,7 +50,7 @@ pub fn types_agree(
     if !every_written(&IsType, row, node) {
         return false;
     }
-    if !writes_types(node, types, results) {
+    if !writes_types(row, node, types, results) {
         return false;
     }
     if !every_result(&IsValueType, results) {
@@ -61,8 +62,18 @@ pub fn types_agree(
     regions_agree(row, node, types) && hands_on_types(row, types, is_last, holder)
 }
 
-// Whether each type is written as it is, or left out.
-fn writes_types(node: &Node, types: &[Option<Ty>], results: ResultTypes) -> bool
+// Whether each type is written as it is, or left out; where the number of results is known, one or none for each.
+fn writes_types(row: &Signature, node: &Node, types: &[Option<Ty>], results: ResultTypes) -> bool
+    ensures {
+        (name : _) (site : _) → operand_types (record site { node = node.now }) ≡ types.now
+        → results_seen results.entry ≡ result_types (row_with name row.now) (record site { node = node.now })
+        → result ≡ writes_types (row_with name row.now) (record site { node = node.now })
+    }
+{
+    are_as_written(node, types, results) && has_places(row, node, types)
+}
+
+fn are_as_written(node: &Node, types: &[Option<Ty>], results: ResultTypes) -> bool
     ensures {
         result ≡ (pointwise is_written_as (fields node.now).in_types types.now
             && option_map_or (pointwise is_written_as (fields node.now).out_types) (results_seen results.entry) true)
@@ -71,6 +82,25 @@ fn writes_types(node: &Node, types: &[Option<Ty>], results: ResultTypes) -> bool
     // The types of operands are given as those of carried values are.
     are_written(in_types(node), ResultTypes::Carried(types))
         && are_written(out_types(node), results)
+}
+
+fn has_places(row: &Signature, node: &Node, types: &[Option<Ty>]) -> bool
+    ensures {
+        (name : _) (site : _) → operand_types (record site { node = node.now }) ≡ types.now
+        → result ≡ option_map_or (λ n. length (fields node.now).out_types == n) (count_from (row_with name row.now) (record site { node = node.now }) row.now.source) true
+    }
+{
+    is_number(out_types(node).len(), count_from(row, node, types))
+}
+
+// Whether it is this number, where one is known.
+fn is_number(found: usize, number: Option<u128>) -> bool
+    ensures { result ≡ option_map_or (λ n. found == n) number true }
+{
+    match number {
+        Some(number) => found as u128 == number,
+        None => true,
+    }
 }
 
 fn are_written(texts: &[Option<TypeText>], types: ResultTypes) -> bool

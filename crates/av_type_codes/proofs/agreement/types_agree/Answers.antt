@@ -32,11 +32,7 @@ returns-then-not-writes_types c = λ name own site p r.
     (regions_agree (row_with name c.args.row.now) (record site { node = c.args.node.now; is_last = c.args.is_last; holder = option_map (holder_with own) c.args.holder }))
     (hands_on_types (row_with name c.args.row.now) (record site { node = c.args.node.now; is_last = c.args.is_last; holder = option_map (holder_with own) c.args.holder }))
     (sym (c.every_written.ensures name (record site { node = c.args.node.now; is_last = c.args.is_last; holder = option_map (holder_with own) c.args.holder })) ∙ c.if-not-every_written.false)
-    (sym (c.writes_types.ensures
-    ∙ ap (λ (ts : List (Option Ty)). pointwise is_written_as (fields c.args.node.now).in_types ts
-        && option_map_or (pointwise is_written_as (fields c.args.node.now).out_types) (results_seen c.args.results) true) (sym p)
-    ∙ ap (λ (rs : Option (List (Option Ty))). pointwise is_written_as (fields c.args.node.now).in_types (operand_types (record site { node = c.args.node.now; is_last = c.args.is_last; holder = option_map (holder_with own) c.args.holder }))
-        && option_map_or (pointwise is_written_as (fields c.args.node.now).out_types) rs true) r) ∙ c.if-not-writes_types.true)
+    (sym (c.writes_types.ensures name (record site { node = c.args.node.now; is_last = c.args.is_last; holder = option_map (holder_with own) c.args.holder }) p r) ∙ c.if-not-writes_types.true)
 
 pub returns-then-not-every_result : goal.returns-then-not-every_result
 returns-then-not-every_result c = λ name own site p r.
@@ -47,11 +43,7 @@ returns-then-not-every_result c = λ name own site p r.
     (regions_agree (row_with name c.args.row.now) (record site { node = c.args.node.now; is_last = c.args.is_last; holder = option_map (holder_with own) c.args.holder }))
     (hands_on_types (row_with name c.args.row.now) (record site { node = c.args.node.now; is_last = c.args.is_last; holder = option_map (holder_with own) c.args.holder }))
     (sym (c.every_written.ensures name (record site { node = c.args.node.now; is_last = c.args.is_last; holder = option_map (holder_with own) c.args.holder })) ∙ c.if-not-every_written.false)
-    (sym (c.writes_types.ensures
-    ∙ ap (λ (ts : List (Option Ty)). pointwise is_written_as (fields c.args.node.now).in_types ts
-        && option_map_or (pointwise is_written_as (fields c.args.node.now).out_types) (results_seen c.args.results) true) (sym p)
-    ∙ ap (λ (rs : Option (List (Option Ty))). pointwise is_written_as (fields c.args.node.now).in_types (operand_types (record site { node = c.args.node.now; is_last = c.args.is_last; holder = option_map (holder_with own) c.args.holder }))
-        && option_map_or (pointwise is_written_as (fields c.args.node.now).out_types) rs true) r) ∙ c.if-not-writes_types.false)
+    (sym (c.writes_types.ensures name (record site { node = c.args.node.now; is_last = c.args.is_last; holder = option_map (holder_with own) c.args.holder }) p r) ∙ c.if-not-writes_types.false)
     (sym (c.every_result.ensures ∙ ap (list_all (if_known is_value_type)) (unwrapped (results_seen c.args.results))
     ∙ ap (λ (rs : Option (List (Option Ty))). list_all (if_known is_value_type) (option_map_or (λ types. types) rs [])) r) ∙ c.if-not-every_result.true)
 
@@ -64,11 +56,7 @@ returns-then-not-all_agree c = λ name own site p r.
     (regions_agree (row_with name c.args.row.now) (record site { node = c.args.node.now; is_last = c.args.is_last; holder = option_map (holder_with own) c.args.holder }))
     (hands_on_types (row_with name c.args.row.now) (record site { node = c.args.node.now; is_last = c.args.is_last; holder = option_map (holder_with own) c.args.holder }))
     (sym (c.every_written.ensures name (record site { node = c.args.node.now; is_last = c.args.is_last; holder = option_map (holder_with own) c.args.holder })) ∙ c.if-not-every_written.false)
-    (sym (c.writes_types.ensures
-    ∙ ap (λ (ts : List (Option Ty)). pointwise is_written_as (fields c.args.node.now).in_types ts
-        && option_map_or (pointwise is_written_as (fields c.args.node.now).out_types) (results_seen c.args.results) true) (sym p)
-    ∙ ap (λ (rs : Option (List (Option Ty))). pointwise is_written_as (fields c.args.node.now).in_types (operand_types (record site { node = c.args.node.now; is_last = c.args.is_last; holder = option_map (holder_with own) c.args.holder }))
-        && option_map_or (pointwise is_written_as (fields c.args.node.now).out_types) rs true) r) ∙ c.if-not-writes_types.false)
+    (sym (c.writes_types.ensures name (record site { node = c.args.node.now; is_last = c.args.is_last; holder = option_map (holder_with own) c.args.holder }) p r) ∙ c.if-not-writes_types.false)
     (sym (c.every_result.ensures ∙ ap (list_all (if_known is_value_type)) (unwrapped (results_seen c.args.results))
     ∙ ap (λ (rs : Option (List (Option Ty))). list_all (if_known is_value_type) (option_map_or (λ types. types) rs [])) r) ∙ c.if-not-every_result.false)
     (sym (c.all_agree.ensures (row_with name c.args.row.now) (record site { node = c.args.node.now; is_last = c.args.is_last; holder = option_map (holder_with own) c.args.holder }) p r) ∙ c.if-not-all_agree.true)
@@ -84,11 +72,7 @@ returns-then-regions_agree c = λ name own site p r.
     (regions_agree (row_with name c.args.row.now) (record site { node = c.args.node.now; is_last = c.args.is_last; holder = option_map (holder_with own) c.args.holder }))
     (hands_on_types (row_with name c.args.row.now) (record site { node = c.args.node.now; is_last = c.args.is_last; holder = option_map (holder_with own) c.args.holder }))
     (sym (c.every_written.ensures name (record site { node = c.args.node.now; is_last = c.args.is_last; holder = option_map (holder_with own) c.args.holder })) ∙ c.if-not-every_written.false)
-    (sym (c.writes_types.ensures
-    ∙ ap (λ (ts : List (Option Ty)). pointwise is_written_as (fields c.args.node.now).in_types ts
-        && option_map_or (pointwise is_written_as (fields c.args.node.now).out_types) (results_seen c.args.results) true) (sym p)
-    ∙ ap (λ (rs : Option (List (Option Ty))). pointwise is_written_as (fields c.args.node.now).in_types (operand_types (record site { node = c.args.node.now; is_last = c.args.is_last; holder = option_map (holder_with own) c.args.holder }))
-        && option_map_or (pointwise is_written_as (fields c.args.node.now).out_types) rs true) r) ∙ c.if-not-writes_types.false)
+    (sym (c.writes_types.ensures name (record site { node = c.args.node.now; is_last = c.args.is_last; holder = option_map (holder_with own) c.args.holder }) p r) ∙ c.if-not-writes_types.false)
     (sym (c.every_result.ensures ∙ ap (list_all (if_known is_value_type)) (unwrapped (results_seen c.args.results))
     ∙ ap (λ (rs : Option (List (Option Ty))). list_all (if_known is_value_type) (option_map_or (λ types. types) rs [])) r) ∙ c.if-not-every_result.false)
     (sym (c.all_agree.ensures (row_with name c.args.row.now) (record site { node = c.args.node.now; is_last = c.args.is_last; holder = option_map (holder_with own) c.args.holder }) p r) ∙ c.if-not-all_agree.false)
@@ -103,11 +87,7 @@ returns-else-regions_agree c = λ name own site p r.
     (regions_agree (row_with name c.args.row.now) (record site { node = c.args.node.now; is_last = c.args.is_last; holder = option_map (holder_with own) c.args.holder }))
     (hands_on_types (row_with name c.args.row.now) (record site { node = c.args.node.now; is_last = c.args.is_last; holder = option_map (holder_with own) c.args.holder }))
     (sym (c.every_written.ensures name (record site { node = c.args.node.now; is_last = c.args.is_last; holder = option_map (holder_with own) c.args.holder })) ∙ c.if-not-every_written.false)
-    (sym (c.writes_types.ensures
-    ∙ ap (λ (ts : List (Option Ty)). pointwise is_written_as (fields c.args.node.now).in_types ts
-        && option_map_or (pointwise is_written_as (fields c.args.node.now).out_types) (results_seen c.args.results) true) (sym p)
-    ∙ ap (λ (rs : Option (List (Option Ty))). pointwise is_written_as (fields c.args.node.now).in_types (operand_types (record site { node = c.args.node.now; is_last = c.args.is_last; holder = option_map (holder_with own) c.args.holder }))
-        && option_map_or (pointwise is_written_as (fields c.args.node.now).out_types) rs true) r) ∙ c.if-not-writes_types.false)
+    (sym (c.writes_types.ensures name (record site { node = c.args.node.now; is_last = c.args.is_last; holder = option_map (holder_with own) c.args.holder }) p r) ∙ c.if-not-writes_types.false)
     (sym (c.every_result.ensures ∙ ap (list_all (if_known is_value_type)) (unwrapped (results_seen c.args.results))
     ∙ ap (λ (rs : Option (List (Option Ty))). list_all (if_known is_value_type) (option_map_or (λ types. types) rs [])) r) ∙ c.if-not-every_result.false)
     (sym (c.all_agree.ensures (row_with name c.args.row.now) (record site { node = c.args.node.now; is_last = c.args.is_last; holder = option_map (holder_with own) c.args.holder }) p r) ∙ c.if-not-all_agree.false)
