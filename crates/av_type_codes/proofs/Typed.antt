@@ -1,12 +1,13 @@
 -- Types at places of lists, and what is left where a list ends.
 use Rattle.std.proofs.Common.{◌≡◌, ◌∙◌, ℕ, zero, suc, ◌+◌, ◌-◌, ◌<◌, ◌≤◌, min, Bool, true, false, ◌&&◌, List, [], ◌∷◌, length, map, drop, Option, None, refl, ap, sym, arith, get_or}
 use Rattle.std.specs.Prelude.{ℤ}
-use Rattle.std.proofs.lemmas.List.{drop_more, length-drop}
+use Rattle.std.proofs.lemmas.List.{drop_more, length-drop, length-map}
 use Rattle.av_ir.specs.declared.ty.Ty.{Ty}
 use Rattle.av_rules.specs.Agreement.{are_typed}
 use Rattle.av_rules.specs.Constants.{are_below}
-use Rattle.av_rules.specs.Typing.{type_in}
+use Rattle.av_rules.specs.Typing.{spelled, type_in}
 use Rattle.av_tree.specs.declared.node.BodyArg.{BodyArg}
+use Rattle.av_tree.specs.declared.written.TypeText.{TypeText}
 
 pub in_read : (xs : List (Option Ty)) (k : ℕ) → type_in xs k ≡ get_or xs k None
 in_read [] k = refl
@@ -54,6 +55,16 @@ below_ended ns ss k h = none_below (drop k ns) (drop k ss) (left_empty ns ss k h
 pub typed_ended : (args : List BodyArg) (types : List (Option Ty)) (k : ℕ) → min (length args) (length types) ≤ k → are_typed (drop k args) (drop k types) ≡ true
 typed_ended args types k h = none_typed (drop k args) (drop k types) (left_empty args types k h)
 
+pub inputs_ended : (args : List BodyArg) (inputs : List TypeText) (k : ℕ) → min (length args) (length inputs) ≤ k
+    → are_typed (drop k args) (map spelled (drop k inputs)) ≡ true
+inputs_ended args inputs k h =
+    none_typed (drop k args) (map spelled (drop k inputs))
+    (omega (arith, length-map (drop k inputs) spelled, length-drop k args, length-drop k inputs))
+
 pub below_none : (ns : List ℤ) → are_below ns [] ≡ true
 below_none [] = refl
 below_none (n ∷ ns) = refl
+
+pub typed_none : (args : List BodyArg) → are_typed args [] ≡ true
+typed_none [] = refl
+typed_none (arg ∷ args) = refl

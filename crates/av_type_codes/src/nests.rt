@@ -141,8 +141,9 @@ fn first_number_in(items: &[Element]) -> Option<i128>
     ensures { result ≡ option_map (λ leaf. leaf.number) (slice_get (flat_map (λ item. (nest_of item).leaves) items.now) 0) }
 {
     for item in items {
-        if let Some(number) = first_number(item) {
-            return Some(number);
+        let found = first_number(item);
+        if found.is_some() {
+            return found;
         }
     }
     None
@@ -158,9 +159,13 @@ fn has_sizes(element: &Element, sizes: SizesView, from: usize) -> bool
     match element {
         Element::Number(_) | Element::Bool(_) => from == size_count(sizes),
         Element::List(items) => {
-            from < size_count(sizes)
-                && items.len() as u128 == size_in(sizes, from)
-                && have_sizes(items.as_slice(), sizes, from + 1)
+            if from == size_count(sizes) {
+                return false;
+            }
+            if items.len() as u128 != size_in(sizes, from) {
+                return false;
+            }
+            have_sizes(items.as_slice(), sizes, from + 1)
         }
     }
 }

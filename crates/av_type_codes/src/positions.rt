@@ -10,6 +10,7 @@ use super::relations::size_in;
 use av_sites::{SizesView, TypeView, size_at, size_count};
 
 /// Whether each number of a position is from 0 on and below the size at its place.
+#[tactic(auto, using(crate::proofs::Typed::below_none))]
 pub(crate) fn is_within(numbers: Option<&[i128]>, ty: Option<TypeView>) -> bool
     ensures {
         result ≡ option_map_or (λ list. are_below list (sizes_of (option_map type_seen ty.entry))) (option_map (λ list. list.now) numbers.entry) true

@@ -1,18 +1,21 @@
 //! Whether the arguments of regions have the types that their operation gives, and what a terminator hands on.
 
-ghost use Rattle.std.specs.Prelude.{◌≡◌, ◌∷◌, codes, map, option_map, true, Some};
+ghost use Rattle.std.specs.Prelude.{◌≡◌, ℕ, ◌∷◌, codes, map, option_map, true, Some};
 ghost use Rattle.std.specs.List.{list_all};
 ghost use Rattle.std.specs.Option.{option_and_then, option_map_or};
 ghost use Rattle.std.specs.Cmp.Lexicographic.{pointwise};
-ghost use Rattle.av_rules.specs.Agreement.{are_typed, hands_on_types, if_both, regions_agree};
+ghost use Rattle.av_rules.specs.Agreement.{are_typed, argument_types, hands_on_types, if_both, regions_agree};
 ghost use Rattle.av_rules.specs.Entries.{entry_of, function_of};
 ghost use Rattle.av_rules.specs.Places.{operand_types};
 ghost use Rattle.av_rules.specs.Typing.{index_type, spelled};
 ghost use Rattle.av_rules.specs.Views.{inside};
+ghost use Rattle.av_signatures.specs.declared.signature.Arguments.TheVariants as arguments;
+ghost use Rattle.av_signatures.specs.declared.signature.Role.TheVariants as role;
 ghost use Rattle.av_types.specs.Relations.{same_type};
 ghost use Rattle.av_sites.specs.Parts.{function_seen, holder_with};
 ghost use Rattle.av_sites.specs.Rows.{row_with};
 ghost use Rattle.av_sites.specs.TypeViews.{type_seen};
+ghost use Rattle.av_type_codes.specs.ArgumentLists.{arguments_seen};
 
 use super::relations::same_if_known;
 use av_ir::{Elem, Ty};
@@ -23,6 +26,19 @@ use av_sites::{
 };
 use av_tree::{Body, BodyArg, Node, TypeText};
 
+/// The types of the arguments of an operation's regions.
+#[derive(Clone, Copy)]
+enum ArgumentTypes<'t> {
+    /// They aren't known.
+    Unknown,
+    /// Nothing is asked of them.
+    Nothing,
+    /// They are the inputs of a function type.
+    Inputs(&'t [TypeText]),
+    /// The first is `index`, and the others are of the types that are carried.
+    Turn(&'t [Option<Ty>]),
+}
+
 /// Whether the arguments of an operation's regions have their types, where these are known.
 pub(crate) fn regions_agree(row: &Signature, node: &Node, types: &[Option<Ty>]) -> bool
     ensures {
@@ -30,16 +46,42 @@ pub(crate) fn regions_agree(row: &Signature, node: &Node, types: &[Option<Ty>]) 
         → result ≡ regions_agree (row_with name row.now) (record site { node = node.now })
     }
 {
+    all_typed(regions(node), argument_types(row, node, types))
+}
+
+fn argument_types<'t>(
+    row: &Signature,
+    node: &'t Node,
+    types: &'t [Option<Ty>],
+) -> ArgumentTypes<'t>
+    ensures {
+        (name : _) (site : _) → operand_types (record site { node = node.now }) ≡ types.now
+        → arguments_seen result ≡ argument_types (row_with name row.now) (record site { node = node.now }) row.now.role
+    }
+{
     match row.role {
-        Role::Holds(_, Arguments::Inputs, _) => match function_type(node) {
-            Some(function) => all_have_inputs(regions(node), function.inputs),
-            None => true,
+        Role::Holds(_, arguments, _) => match arguments {
+            Arguments::Inputs => inputs_of(node),
+            Arguments::Turn => match carried_types(row, node, types) {
+                Some(carried) => ArgumentTypes::Turn(carried),
+                None => ArgumentTypes::Unknown,
+            },
+            Arguments::None => ArgumentTypes::Nothing,
         },
-        Role::Holds(_, Arguments::Turn, _) => match carried_types(row, node, types) {
-            Some(carried) => all_turn(regions(node), carried),
-            None => true,
-        },
-        _ => true,
+        Role::Plain | Role::Ends(_) | Role::Module => ArgumentTypes::Nothing,
+    }
+}
+
+// The inputs of the type of a function.
+fn inputs_of(node: &Node) -> ArgumentTypes
+    ensures {
+        (row : _) (site : _) (n : ℕ) (e : _)
+        → arguments_seen result ≡ argument_types row (record site { node = node.now }) (role.Holds n arguments.Inputs e)
+    }
+{
+    match function_type(node) {
+        Some(function) => ArgumentTypes::Inputs(function.inputs),
+        None => ArgumentTypes::Unknown,
     }
 }
 
@@ -50,10 +92,23 @@ fn function_type(node: &Node) -> Option<FunctionView>
     function_of(entry(node, b"function_type".as_slice())?)
 }
 
-fn all_have_inputs(bodies: &[Body], inputs: &[TypeText]) -> bool
-    ensures { result ≡ list_all (λ body. are_typed (inside body).args (map spelled inputs.now)) bodies.now }
+fn all_typed(bodies: &[Body], arguments: ArgumentTypes) -> bool
+    ensures {
+        result ≡ list_all (λ body. option_map_or (are_typed (inside body).args) (arguments_seen arguments.entry) true) bodies.now
+    }
 {
-    bodies.iter().all(|body| are_inputs(args(body), inputs))
+    bodies.iter().all(|body| are_typed(args(body), arguments))
+}
+
+#[tactic(auto, using(crate::proofs::Typed::typed_none))]
+fn are_typed(args: &[BodyArg], arguments: ArgumentTypes) -> bool
+    ensures { result ≡ option_map_or (are_typed args.now) (arguments_seen arguments.entry) true }
+{
+    match arguments {
+        ArgumentTypes::Unknown | ArgumentTypes::Nothing => true,
+        ArgumentTypes::Inputs(inputs) => are_inputs(args, inputs),
+        ArgumentTypes::Turn(carried) => is_turn(args, carried),
+    }
 }
 
 fn are_inputs(args: &[BodyArg], inputs: &[TypeText]) -> bool
@@ -66,12 +121,6 @@ fn are_inputs(args: &[BodyArg], inputs: &[TypeText]) -> bool
         }
     }
     true
-}
-
-fn all_turn(bodies: &[Body], carried: &[Option<Ty>]) -> bool
-    ensures { result ≡ list_all (λ body. are_typed (inside body).args (Some index_type ∷ carried.now)) bodies.now }
-{
-    bodies.iter().all(|body| is_turn(args(body), carried))
 }
 
 // Whether the first argument is of type `index`, and the others are of the types that are carried.

@@ -1,6 +1,6 @@
 //! How two types are related that are seen where they stand.
 
-ghost use Rattle.std.specs.Prelude.{◌≡◌, ◌-◌, ◌<◌, ◌≤◌, [], ◌∷◌, drop, length, nat_eq, option_map, slice_index, slice_index_or};
+ghost use Rattle.std.specs.Prelude.{◌≡◌, ◌&&◌, ◌-◌, ◌<◌, ◌≤◌, [], ◌∷◌, drop, length, nat_eq, option_map, slice_index, slice_index_or};
 ghost use Rattle.std.specs.Cmp.Lexicographic.{pointwise};
 ghost use Rattle.av_ir.specs.declared.ty.Extent.TheVariants as extent;
 ghost use Rattle.av_ir.specs.declared.ty.Ty.TheVariants.{MemRef, Vector};
@@ -178,21 +178,23 @@ fn stretch(sizes: SizesView, scales: bool, others: SizesView, scaled: bool) -> b
     for at in 0..count {
         let size = size_in(sizes, at);
         let other = size_in(others, before + at);
-        if at + 1 < count {
-            if size != other && size != 1 {
-                return false;
-            }
-        } else if !stretches_last(size, scales, other, scaled) {
+        let is_last = at + 1 == count;
+        if !stretches_at(is_last, size, scales, other, scaled) {
             return false;
         }
     }
     true
 }
 
-fn stretches_last(size: u128, scales: bool, other: u128, scaled: bool) -> bool
-    ensures { result ≡ stretch (size ∷ []) scales (other ∷ []) scaled }
+// Whether one size is the same as another or stretched from 1; only the last one of each is scalable or not.
+fn stretches_at(is_last: bool, size: u128, scales: bool, other: u128, scaled: bool) -> bool
+    ensures { result ≡ stretch (size ∷ []) (is_last && scales) (other ∷ []) (is_last && scaled) }
 {
-    (size == other && scales == scaled) || (size == 1 && !scales)
+    if is_last {
+        (size == other && scales == scaled) || (size == 1 && !scales)
+    } else {
+        size == other || size == 1
+    }
 }
 
 /// Whether two types are the same, where both are known.

@@ -1,5 +1,5 @@
 -- The types that each kind of attribute has in it.
-use Rattle.std.proofs.Common.{◌≡◌, ◌∙◌, ℕ, List, [], ◌∷◌, ◌++◌, refl, ap, sym, flat_map, Bool}
+use Rattle.std.proofs.Common.{◌≡◌, ◌∙◌, ℕ, List, [], ◌∷◌, ◌++◌, refl, ap, flat_map, Bool}
 use Rattle.std.specs.Prelude.{ℤ}
 use Rattle.av_tree.specs.declared.attribute.Attr.{Attr, Row_of-Attr, end_of-Attr, more_of-Attr, Row_of-Named, end_of-Named, more_of-Named, items-the_row-Attr, items_hidden-the_row-Attr-0, items-the_row-Named, items_hidden-the_row-Named-1}
 use Rattle.av_tree.specs.declared.attribute.Attr.TheBlock.{hidden-the_row-Attr-0, hidden-the_row-Named-1}

@@ -4,5 +4,5 @@
 mod results;
 mod written;
 
-pub use results::{TypeTest, every_result};
+pub use results::{TypeTest, count_from, every_result};
 pub use written::{TextTest, every_argument, every_in, every_written};

@@ -1,9 +1,9 @@
-use Rattle.std.proofs.Common.{◌<◌, ◌≤◌, ◌∙◌, [], None, arith, length, refl, option_map}
+use Rattle.std.proofs.Common.{◌∙◌, [], None, arith, refl, option_map}
 use Rattle.std.specs.Prelude.{unwrap_or}
 use Rattle.std.specs.List.{list_all}
 use Rattle.av_rules.specs.Agreement.{if_known}
 use Rattle.av_sites.specs.TypeViews.{results_seen, type_seen}
-use Rattle.av_written.proofs.Scans.{ended, failed, passed}
+use Rattle.av_written.proofs.Scans.{failed, passed}
 use Rattle.av_written.proofs.TypeLists.{in_read}
 use Rattle.av_written.proofs.results.every_below.Goals as goal
 

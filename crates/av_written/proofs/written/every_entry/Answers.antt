@@ -1,8 +1,7 @@
-use Rattle.std.proofs.Common.{◌∙◌, ◌&&◌, List, ap, sym}
+use Rattle.std.proofs.Common.{◌∙◌, ◌&&◌, ap, sym}
 use Rattle.av_rules.specs.Entries.{is_dropped}
 use Rattle.av_rules.specs.Views.{fields}
 use Rattle.av_sites.specs.Rows.{row_with}
-use Rattle.av_tree.specs.declared.attribute.Named.{Named}
 use Rattle.av_written.proofs.TypeLists.{kept_both, kept_pass}
 use Rattle.av_written.proofs.written.every_entry.Goals as goal
 

@@ -1,9 +1,8 @@
-use Rattle.std.proofs.Common.{◌≡◌, ◌∙◌, List, Option, ap, flat_map, sym}
+use Rattle.std.proofs.Common.{◌∙◌, List, Option, ap, flat_map, sym}
 use Rattle.std.specs.List.{list_all}
 use Rattle.std.specs.Option.{option_to_list}
 use Rattle.av_rules.specs.Agreement.{types_in, types_of_arguments}
 use Rattle.av_rules.specs.Entries.{kept}
-use Rattle.av_rules.specs.Places.{Site}
 use Rattle.av_rules.specs.Views.{fields}
 use Rattle.av_sites.specs.Rows.{row_with}
 use Rattle.av_tree.specs.declared.written.TypeText.{TypeText}

@@ -1,4 +1,4 @@
-use Rattle.std.proofs.Common.{◌≡◌, ◌∙◌, ◌||◌, List, ℕ, ap, sym}
+use Rattle.std.proofs.Common.{◌∙◌, ◌||◌, List, ℕ, ap, sym}
 use Rattle.std.specs.List.{list_all}
 use Rattle.av_rules.specs.Agreement.{types_in}
 use Rattle.av_rules.specs.Entries.{is_dropped}
