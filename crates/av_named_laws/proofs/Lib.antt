@@ -6,3 +6,4 @@ pub mod ReadSubscripts
 pub mod ReadBounds
 pub mod Operands
 pub mod Parts
+pub mod Operations
