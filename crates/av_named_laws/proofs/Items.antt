@@ -25,7 +25,7 @@ use Rattle.av_printer.specs.Operations as operations
 use Rattle.av_printer.specs.Parts.{angled_of, applied, bound_name, bound_of, bound_size, element, first_known, flags_of, item_pieces, numbers, selected_types, types_from, word_of, written_results}
 use Rattle.av_printer.specs.Parts as printer
 use Rattle.av_values.specs.declared.value.Value.TheVariants as value
-use Rattle.av_values.specs.Gifts.{Line, args_in, front}
+use Rattle.av_values.specs.Gifts.{Line, args_in, first_numbers, front}
 use Rattle.av_values.specs.Loops.{counter, index_type, step}
 use Rattle.av_values.specs.Nodes.{entry}
 use Rattle.av_round_trip.specs.Giving.{Gives}
@@ -35,7 +35,7 @@ use Rattle.av_form_laws.specs.Items.{Fits, StandsAt, access_taken, applied_entry
 use Rattle.av_form_laws.specs.Items as items
 use Rattle.av_form_laws.specs.Lines.{at_slot, first_slot, first_text, known, type_at}
 use Rattle.av_form_laws.specs.Loops.{args_of, first_name, first_step, inits_of, paired, types_of}
-use Rattle.av_form_laws.specs.Properties.{first_flags, first_numbers, first_word, long, said_by}
+use Rattle.av_form_laws.specs.Properties.{first_flags, first_word, long, said_by}
 use Rattle.av_form_laws.specs.Subscripts.{map_in, numbered_map}
 use Rattle.av_form_laws.proofs.Entries.{first-applied, out-map, out-number}
 use Rattle.av_named_laws.specs.Laws.{ItemsLaw, own}

@@ -56,6 +56,7 @@ use Rattle.av_form_laws.proofs.Entries.{out-number}
 use Rattle.av_dialects.specs.declared.item.Item.TheVariants as item
 use Rattle.av_named_laws.specs.Legible.{IsLegibleConstant}
 use Rattle.av_named_laws.specs.Shown.{IsKind, IsPredicate, SameProperty}
+use Rattle.av_named_laws.specs.Stacks.{stacked}
 
 -- ---- a property by its name
 first-found : (text : List ℕ) (a : Attr) (es : List Named) → same text text ≡ true → property (entry text a ∷ es) text ≡ Some a
@@ -139,7 +140,7 @@ each-flag most (word ∷ words) h = let two = both (is_flag word) (list_all is_f
 
 module _ {most : ℕ} where
   pub word-read : (k : Key) (word : List ℕ) → IsPredicate k → is_word_of k word ≡ true
-      → Gives most (item_symbols (item.Word k)) (word_of (Some (said_by k word))) (value.Text word ∷ [])
+      → Gives most (item_symbols (item.Word k)) (word_of (Some (said_by k word))) (stacked (item.Word k) word)
   word-read key.Predicate word p h =
       given_as (word-printed word h) (given_token test.Predicate kinds.Word word (one-fits test.Predicate predicates word predicates-fit h))
   word-read key.Kind word p h = absurd p
@@ -147,7 +148,7 @@ module _ {most : ℕ} where
   word-read key.Mask word p h = absurd p
 
   pub angled-read : (k : Key) (word : List ℕ) → IsKind k → is_word_of k word ≡ true
-      → Gives most (item_symbols (item.Angled k)) (angled_of (Some (said_by k word))) (value.Text word ∷ [])
+      → Gives most (item_symbols (item.Angled k)) (angled_of (Some (said_by k word))) (stacked (item.Angled k) word)
   angled-read key.Kind word p h =
       given_as (angled-some (codes "#vector.kind") (word ∷ []) ∙ one-angled word)
       (join (join (given_sign signs.OpenAngle) (given_token test.Kind kinds.Word word (one-fits test.Kind kind_words word kinds-fit h))) (given_sign signs.CloseAngle))

@@ -42,6 +42,7 @@ use Rattle.av_tree.specs.Forms.{item_symbols}
 use Rattle.av_values.specs.Gifts.{all_written}
 use Rattle.av_named_laws.specs.Legible.{IsTypeIfAny}
 use Rattle.av_named_laws.specs.Shown.{said_at}
+use Rattle.av_named_laws.specs.Stacks.{stacked}
 
 -- ---- what a type is
 out-scalar : (word : List ℕ) → out-TypeText (Scalar word) ≡ open_type.Scalar word
@@ -67,7 +68,7 @@ written-pieces (t ∷ ts) = ap (λ l. type_pieces t ∷ l) (written-pieces ts)
 module _ {most : ℕ} where
   -- ---- one type
   pub type-read : (w : Wanted) (s : Slots) (t : TypeText) → IsWanted w t → IsType t
-      → Gives most (item_symbols (item.Type w s)) (type_pieces t) (value.Type t ∷ [])
+      → Gives most (item_symbols (item.Type w s)) (type_pieces t) (stacked (item.Type w s) t)
   type-read wanted.Any s t h is = types-law most t is
   type-read wanted.Buffer s _ h (scalar word is) = absurd (not-wanted wanted.Buffer (Scalar word) (open_type.Scalar word) (out-scalar word) refl h)
   type-read wanted.Buffer s _ h (mem_ref sizes elem at short is layout) = given_mem_ref sizes elem at short is layout
