@@ -4,6 +4,8 @@ pub mod ReadProperties
 pub mod ReadMaps
 pub mod ReadSubscripts
 pub mod ReadBounds
+pub mod ReadCarried
 pub mod Operands
+pub mod Items
 pub mod Parts
 pub mod Operations
