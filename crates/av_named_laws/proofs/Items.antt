@@ -1,5 +1,5 @@
 -- Each item is read as it is printed.
-use Rattle.std.proofs.Common.{◌≡◌, ℕ, ◌+◌, ◌≤◌, true, false, List, [], ◌∷◌, ◌++◌, length, take, drop, Option, Some, refl, sym, ap, ◌∙◌}
+use Rattle.std.proofs.Common.{◌≡◌, ℕ, true, false, List, [], ◌∷◌, take, drop, Option, Some, refl, sym, ap, ◌∙◌}
 use Rattle.std.specs.Prelude.{pos, codes}
 use Rattle.av_lex.specs.declared.token.Kind.TheVariants as kinds
 use Rattle.av_tree.specs.declared.attribute.Attr.{Attr}
@@ -7,18 +7,12 @@ use Rattle.av_tree.specs.declared.attribute.Attr.TheVariants as attr
 use Rattle.av_tree.specs.declared.node.BodyArg.{BodyArg}
 use Rattle.av_tree.specs.declared.table.Symbol.TheVariants as symbol
 use Rattle.av_tree.specs.declared.table.Test.TheVariants as test
-use Rattle.av_tree.specs.declared.table.Name.TheVariants as name
-use Rattle.av_tree.specs.declared.table.affine.AffineName.TheVariants as affine_name
 use Rattle.av_tree.specs.declared.written.MapText.{MapText}
 use Rattle.av_tree.specs.declared.written.TypeText.{TypeText}
-use Rattle.av_tree.specs.Forms.{item_symbols}
-use Rattle.av_dialects.specs.declared.item.Item.{Item}
 use Rattle.av_dialects.specs.declared.item.Item.TheVariants as item
 use Rattle.av_dialects.specs.declared.item.Slots.{Slots}
 use Rattle.av_dialects.specs.declared.item.Slots.TheVariants as slots
 use Rattle.av_dialects.specs.Rows.{property_of}
-use Rattle.av_dialects.specs.Types.{takes}
-use Rattle.av_printer.specs.Pieces.{Piece}
 use Rattle.av_printer.specs.Types.{type_pieces}
 use Rattle.av_printer.specs.Operations.{Head, buffer, carried_behind, constant_value, map_of, marks_behind, property, step_behind, step_of, variable}
 use Rattle.av_printer.specs.Operations as operations
@@ -27,21 +21,17 @@ use Rattle.av_printer.specs.Parts as printer
 use Rattle.av_values.specs.declared.value.Value.TheVariants as value
 use Rattle.av_values.specs.Gifts.{Line, args_in, first_numbers, front}
 use Rattle.av_values.specs.Loops.{counter, index_type, step}
-use Rattle.av_values.specs.Nodes.{entry}
 use Rattle.av_round_trip.specs.Giving.{Gives}
 use Rattle.av_round_trip.proofs.Giving.{given_as, given_token}
 use Rattle.av_form_laws.specs.Attributes.{applied_attr, constant_attr, first_applied, first_constant}
-use Rattle.av_form_laws.specs.Items.{Fits, StandsAt, access_taken, applied_entry, bound_taken, chosen, condition_type, taken}
-use Rattle.av_form_laws.specs.Items as items
+use Rattle.av_form_laws.specs.Items.{Fits, StandsAt, access_taken, bound_taken, chosen, condition_type}
 use Rattle.av_form_laws.specs.Lines.{at_slot, first_slot, first_text, known, type_at}
-use Rattle.av_form_laws.specs.Loops.{args_of, first_name, first_step, inits_of, paired, types_of}
+use Rattle.av_form_laws.specs.Loops.{first_name, first_step, inits_of, paired}
 use Rattle.av_form_laws.specs.Properties.{first_flags, first_word, long, said_by}
 use Rattle.av_form_laws.specs.Subscripts.{map_in, numbered_map}
 use Rattle.av_form_laws.proofs.Entries.{first-applied, out-map, out-number}
 use Rattle.av_named_laws.specs.Laws.{ItemsLaw, own}
-use Rattle.av_named_laws.specs.Legible.{IsLegible}
-use Rattle.av_named_laws.specs.Shown.{SameProperty, Shows, said_at}
-use Rattle.av_named_laws.specs.Stacks.{stacked}
+use Rattle.av_named_laws.specs.Shown.{SameProperty, said_at}
 use Rattle.av_named_laws.proofs.Operands.{first-own}
 use Rattle.av_named_laws.proofs.ReadBounds.{bound-read, step-read}
 use Rattle.av_named_laws.proofs.ReadCarried.{carried-read}

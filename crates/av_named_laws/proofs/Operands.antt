@@ -1,5 +1,5 @@
 -- The operands that an item is printed with are those that it takes.
-use Rattle.std.proofs.Common.{arith, ◌≡◌, ℕ, ◌+◌, ◌-◌, ◌≤◌, zero, suc, List, [], ◌∷◌, ◌++◌, length, take, drop, length-drop, refl, sym, ap, subst, ◌∙◌}
+use Rattle.std.proofs.Common.{arith, ◌≡◌, ℕ, ◌+◌, ◌-◌, ◌≤◌, zero, suc, List, [], ◌∷◌, length, take, drop, length-drop, refl, sym, ap}
 use Rattle.av_dialects.specs.declared.item.Item.{Item}
 use Rattle.av_dialects.specs.declared.item.Item.TheVariants as item
 use Rattle.av_dialects.specs.Rows.{Part}
@@ -10,7 +10,7 @@ use Rattle.av_form_laws.specs.Lines.{first_text}
 use Rattle.av_values.specs.Gifts.{Line, back, front}
 use Rattle.av_form_laws.specs.Rows.{Whole}
 use Rattle.av_form_laws.proofs.Lenses.{cleared-operands}
-use Rattle.av_named_laws.specs.Laws.{left_behind, own}
+use Rattle.av_named_laws.specs.Laws.{left_behind}
 use Rattle.av_named_laws.specs.Shown.{Shows}
 
 -- ---- how many there are

@@ -1,5 +1,5 @@
 -- An operation without regions is read as it is printed: the row of its number makes of its words the operation.
-use Rattle.std.proofs.Common.{◌≡◌, ℕ, List, [], ◌∷◌, ◌++◌, Option, Some, refl, sym, ap, ◌∙◌}
+use Rattle.std.proofs.Common.{◌≡◌, List, [], ◌∷◌, Some, refl, sym, ap, ◌∙◌}
 use Rattle.std.specs.Option.{option_and_then}
 use Rattle.av_tree.specs.declared.node.Node.{Node, roll-Node}
 use Rattle.av_tree.specs.declared.class.Keyword.TheVariants as keyword
@@ -13,7 +13,7 @@ use Rattle.av_values.specs.declared.value.Value.TheVariants as value
 use Rattle.av_values.specs.Made.{made as row_made}
 use Rattle.av_values.specs.Sorts.{All, Of, Sort, a_node, a_text, a_tree, any, on_top, replaced, sort_of, sorts_of}
 use Rattle.av_round_trip.proofs.Giving.{join, given_row, given_word}
-use Rattle.av_form_laws.specs.Reading.{form_values, head_at}
+use Rattle.av_form_laws.specs.Reading.{form_values}
 use Rattle.av_form_laws.specs.Rows.{Head, blank, head_of, made, values_of, words_of}
 use Rattle.av_values.specs.Gifts.{unwritten}
 use Rattle.av_form_laws.proofs.Given.{made-whole, makes}

@@ -1,5 +1,5 @@
 -- The parts of a form are read as they are printed, one behind another.
-use Rattle.std.proofs.Common.{arith, ◌≡◌, ℕ, ◌+◌, ◌≤◌, List, [], ◌∷◌, ◌++◌, length, append_assoc, refl, sym, ap, ◌∙◌}
+use Rattle.std.proofs.Common.{arith, ◌≡◌, ℕ, ◌+◌, ◌≤◌, List, [], ◌∷◌, ◌++◌, length, append_assoc, refl, ap, ◌∙◌}
 use Rattle.std.specs.Prelude.{codes}
 use Rattle.av_lex.specs.declared.token.Sign.TheVariants as signs
 use Rattle.av_tree.specs.declared.class.Keyword.TheVariants as keyword
@@ -9,10 +9,8 @@ use Rattle.av_tree.specs.Forms.{form_symbols, item_symbols, lead_symbols}
 use Rattle.av_derive.specs.ClassOf.{keywords}
 use Rattle.av_dialects.specs.declared.item.Lead.{Lead}
 use Rattle.av_dialects.specs.declared.item.Lead.TheVariants as lead
-use Rattle.av_dialects.specs.Rows.{Part}
 use Rattle.av_dialects.specs.Types.{needs, takes}
 use Rattle.av_printer.specs.Pieces.{Piece}
-use Rattle.av_printer.specs.Operations.{Head}
 use Rattle.av_printer.specs.Parts.{item_pieces, lead_pieces, part_pieces, parts_pieces}
 use Rattle.av_values.specs.declared.value.Value.{Value}
 use Rattle.av_values.specs.declared.value.Value.TheVariants as value
@@ -23,11 +21,9 @@ use Rattle.av_round_trip.proofs.Following.{revalued}
 use Rattle.av_round_trip.proofs.Giving.{none, join, given_as, given_comma, given_space, given_spaced, given_word}
 use Rattle.av_form_laws.specs.Items.{rest, taken}
 use Rattle.av_form_laws.specs.Reading.{form_values, item_values, joined, lead_values}
-use Rattle.av_form_laws.specs.Rows.{Whole, values_of}
+use Rattle.av_form_laws.specs.Rows.{values_of}
 use Rattle.av_named_laws.specs.Laws.{PartsLaw, left_behind, own}
-use Rattle.av_named_laws.specs.Legible.{AllLegible}
-use Rattle.av_named_laws.specs.Shown.{ShowsAll}
-use Rattle.av_named_laws.specs.Stacks.{all_stacked, laid}
+use Rattle.av_named_laws.specs.Stacks.{laid}
 use Rattle.av_named_laws.proofs.Items.{items-law}
 use Rattle.av_named_laws.proofs.Operands.{leaves, left-is, needed}
 

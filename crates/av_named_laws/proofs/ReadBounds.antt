@@ -1,5 +1,5 @@
 -- The bounds and steps of loops are read as they are printed.
-use Rattle.std.proofs.Common.{arith, ◌≡◌, ℕ, zero, suc, ◌+◌, Bool, true, false, if◌then◌else◌, List, [], ◌∷◌, ◌++◌, length, Some, append_assoc, refl, sym, ap, subst, ◌∙◌}
+use Rattle.std.proofs.Common.{arith, ◌≡◌, ℕ, ◌+◌, Bool, true, false, if◌then◌else◌, List, [], ◌∷◌, ◌++◌, length, Some, append_assoc, refl, sym, ap, subst, ◌∙◌}
 use Rattle.std.specs.Prelude.{ℤ, pos, codes, decimal, nat_eq}
 use Rattle.std.specs.Ordering.{int_eq}
 use Rattle.std.specs.List.{All}
@@ -9,10 +9,7 @@ use Rattle.std.proofs.lemmas.Slice.Eq.{bytes_eq-Decides}
 use Rattle.av_lex.specs.declared.token.Kind.TheVariants as kinds
 use Rattle.av_tree.specs.declared.attribute.Attr.TheVariants as attr
 use Rattle.av_tree.specs.declared.class.Keyword.TheVariants as keyword
-use Rattle.av_tree.specs.declared.table.Symbol.{Symbol}
-use Rattle.av_tree.specs.declared.table.Symbol.TheVariants as symbol
 use Rattle.av_tree.specs.declared.table.Test.TheVariants as test
-use Rattle.av_tree.specs.declared.table.Name.TheVariants as name
 use Rattle.av_tree.specs.declared.table.Rule.TheVariants as rule
 use Rattle.av_tree.specs.declared.table.affine.AffineName.{AffineName}
 use Rattle.av_tree.specs.declared.table.affine.AffineName.TheVariants as affine_name
@@ -23,14 +20,13 @@ use Rattle.av_tree.specs.declared.written.ExprText.TheOpen as open_expr
 use Rattle.av_tree.specs.declared.written.MapText.{MapText}
 use Rattle.av_derive.specs.ClassOf.{keywords}
 use Rattle.av_printer.specs.Pieces.{Piece, plain, space, token}
-use Rattle.av_printer.specs.Expressions.{bound_by, constant_bound, first_value, lone_symbol, map_use, named_bound, number, same, several_bound, single_bound, single_bound_of, value as value_pieces}
+use Rattle.av_printer.specs.Expressions.{bound_by, constant_bound, first_value, lone_symbol, map_use, named_bound, number, several_bound, single_bound, single_bound_of}
 use Rattle.av_printer.specs.Operations.{step_behind, values_in_round}
 use Rattle.av_printer.specs.Parts.{bound_of}
 use Rattle.av_printer.proofs.PartSteps.{bound-alias, bound-map}
 use Rattle.av_print_laws.specs.ReadExpressions.{IsShortInteger}
 use Rattle.av_print_laws.specs.ReadTypes.{IsShortNumber}
 use Rattle.av_values.specs.declared.value.MapUse.{MapUse}
-use Rattle.av_values.specs.Loops.{bound_of_number, bound_of_value}
 use Rattle.av_values.specs.Sorts.{on_top, replaced}
 use Rattle.av_values.specs.declared.value.Value.TheVariants as value
 use Rattle.av_round_trip.specs.Giving.{Gives}

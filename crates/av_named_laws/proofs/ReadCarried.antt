@@ -1,5 +1,5 @@
 -- The carried values of loops are read as they are printed: each pair before the types, which stand one behind another like the pairs.
-use Rattle.std.proofs.Common.{arith, ◌≡◌, ℕ, ◌≤◌, suc, List, [], ◌∷◌, ◌++◌, length, drop, map, Option, None, Some, append_assoc, append-nil, refl, sym, ap, subst, ◌∙◌}
+use Rattle.std.proofs.Common.{arith, ◌≡◌, ℕ, ◌≤◌, suc, List, [], ◌∷◌, ◌++◌, length, drop, map, Option, Some, append_assoc, append-nil, refl, sym, ap, subst, ◌∙◌}
 use Rattle.std.specs.Prelude.{codes, reverse}
 use Rattle.std.specs.List.{All}
 use Rattle.std.proofs.lemmas.List.{length-map, length-reverse, map-append, reverse-append, reverse-reverse}
@@ -17,9 +17,8 @@ use Rattle.av_tree.specs.declared.table.affine.AffineRule.TheVariants as affine_
 use Rattle.av_tree.specs.declared.table.values.ValueName.TheVariants as values_name
 use Rattle.av_tree.specs.declared.written.TypeText.{TypeText}
 use Rattle.av_derive.specs.ClassOf.{keywords}
-use Rattle.av_printer.specs.Pieces.{Piece, behind, comma, commas, in_round, plain, sign, space, spaced, token}
+use Rattle.av_printer.specs.Pieces.{Piece, behind, comma, commas, in_round, plain, sign, space, spaced}
 use Rattle.av_printer.specs.Types.{type_pieces}
-use Rattle.av_printer.specs.Expressions.{value as value_pieces}
 use Rattle.av_printer.specs.Operations.{carried, carried_behind, carried_in_round, carried_pair, known_in_round, known_type, known_types}
 use Rattle.av_values.specs.declared.value.Carried.{Carried}
 use Rattle.av_values.specs.declared.value.CarriedPair.{CarriedPair}

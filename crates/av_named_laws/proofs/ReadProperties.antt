@@ -1,5 +1,5 @@
 -- Properties that are words, numbers or constants are read as they are printed.
-use Rattle.std.proofs.Common.{◌≡◌, ℕ, zero, suc, Bool, true, false, ◌||◌, if◌then◌else◌, List, [], ◌∷◌, ◌++◌, map, get_or, Option, None, Some, append-nil, refl, sym, ap, subst, ◌∙◌}
+use Rattle.std.proofs.Common.{◌≡◌, ℕ, suc, Bool, true, false, ◌||◌, if◌then◌else◌, List, [], ◌∷◌, ◌++◌, get_or, None, Some, append-nil, refl, sym, ap, subst, ◌∙◌}
 use Rattle.std.specs.Prelude.{ℤ, pos, IsTrue, codes, reverse}
 use Rattle.std.specs.List.{All, list_any, list_all}
 use Rattle.std.specs.Str.{bytes_eq}
@@ -7,7 +7,7 @@ use Rattle.std.proofs.lemmas.List.{reverse-reverse}
 use Rattle.std.proofs.lemmas.Slice.Eq.{bytes_eq-Decides}
 use Rattle.av_lex.specs.declared.token.Kind.TheVariants as kinds
 use Rattle.av_lex.specs.declared.token.Sign.TheVariants as signs
-use Rattle.av_tree.specs.declared.attribute.Attr.{Attr, Attr-F}
+use Rattle.av_tree.specs.declared.attribute.Attr.{Attr}
 use Rattle.av_tree.specs.declared.attribute.Attr.TheVariants as attr
 use Rattle.av_tree.specs.declared.attribute.Named.{Named, Named-F, out-roll-Named}
 use Rattle.av_tree.specs.declared.class.Keyword.TheVariants as keyword
@@ -20,7 +20,6 @@ use Rattle.av_tree.specs.declared.table.Rule.TheVariants as rule
 use Rattle.av_tree.specs.declared.table.arith.ArithName.TheVariants as arith_name
 use Rattle.av_tree.specs.declared.table.arith.ArithRule.TheVariants as arith_rule
 use Rattle.av_tree.specs.declared.table.attributes.AttributeName.TheVariants as attributes_name
-use Rattle.av_tree.specs.declared.table.values.ValueName.TheVariants as values_name
 use Rattle.av_tree.specs.declared.written.TypeText.{TypeText}
 use Rattle.av_tree.specs.Classes.{fits_of}
 use Rattle.av_derive.specs.ClassOf.{keywords}

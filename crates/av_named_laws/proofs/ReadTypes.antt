@@ -1,5 +1,5 @@
 -- Types of operations are read as they are printed.
-use Rattle.std.proofs.Common.{◌≡◌, ℕ, zero, suc, ◌-◌, Bool, true, false, List, [], ◌∷◌, ◌++◌, map, drop, length, slice_get, Option, None, Some, append-nil, append_assoc, refl, sym, ap, ◌∙◌}
+use Rattle.std.proofs.Common.{◌≡◌, ℕ, zero, suc, ◌-◌, true, false, List, [], ◌∷◌, ◌++◌, map, drop, length, slice_get, Option, None, Some, append-nil, append_assoc, refl, sym, ap, ◌∙◌}
 use Rattle.std.specs.Prelude.{reverse}
 use Rattle.std.specs.List.{All}
 use Rattle.av_lex.specs.declared.token.Kind.TheVariants as kinds
@@ -34,7 +34,7 @@ use Rattle.av_print_laws.proofs.TypeParts.{type-scalar}
 use Rattle.av_values.specs.Sorts.{on_top, replaced}
 use Rattle.av_values.specs.declared.value.Value.TheVariants as value
 use Rattle.av_round_trip.specs.Giving.{Gives}
-use Rattle.av_round_trip.specs.Types.{IsScalar, IsType, a_type, scalar, mem_ref, vector}
+use Rattle.av_round_trip.specs.Types.{IsScalar, IsType, scalar, mem_ref, vector}
 use Rattle.av_round_trip.proofs.Giving.{none, join, given_as, given_row, given_comma, given_spaced, given_token}
 use Rattle.av_round_trip.proofs.Types.{given_mem_ref, given_vector, types-law, result_types-law}
 use Rattle.av_form_laws.specs.Items.{IsCondition, IsWanted, choice_types, is_wanted}

@@ -1,6 +1,5 @@
 -- What an operation's head says of an item is what is left of the operation where the item is taken from it.
 use Rattle.std.specs.Prelude.{ℕ, ◌≡◌, ◌-◌, suc, true, false, List, [], ◌∷◌, drop, length, Option, codes, slice_get}
-use Rattle.av_tree.specs.declared.attribute.Attr.{Attr}
 use Rattle.av_tree.specs.declared.attribute.Named.{Named}
 use Rattle.av_tree.specs.declared.written.TypeText.{TypeText}
 use Rattle.av_dialects.specs.declared.item.Item.{Item}
