@@ -1,9 +1,9 @@
 //! How many results an operation has.
 
-ghost use Rattle.std.specs.Prelude.{◌≡◌, ◌==◌, true, not, option_map};
+ghost use Rattle.std.specs.Prelude.{◌≡◌, ◌==◌, nat_le, not};
 ghost use Rattle.std.specs.List.{list_all};
 ghost use Rattle.std.specs.Option.{option_map_or};
-ghost use Rattle.av_rules.specs.Counts.{count_from, has_results};
+ghost use Rattle.av_rules.specs.Counts.{has_results};
 ghost use Rattle.av_rules.specs.Names.{count_in, count_named};
 ghost use Rattle.av_rules.specs.Places.{operand_types};
 ghost use Rattle.av_sites.specs.Rows.{row_with};
@@ -11,37 +11,39 @@ ghost use Rattle.av_sites.specs.Rows.{row_with};
 use super::names::{count_in, count_named};
 use av_affine::Text;
 use av_ir::Ty;
-use av_signatures::{Signature, Source};
-use av_sites::{carried_count, out_types, results};
+use av_signatures::Signature;
+use av_sites::{operands, results};
 use av_tree::Node;
+use av_written::count_from;
 
 /// Whether as many results are named as an operation has whose operands have these types, and each name stands for one.
 pub fn has_results(row: &Signature, node: &Node, types: &[Option<Ty>]) -> bool
     ensures { (name : _) (site : _) → operand_types (record site { node = node.now }) ≡ types.now
         → result ≡ has_results (row_with name row.now) (record site { node = node.now }) }
 {
-    has_count(results(node), count_from(row, node, types)) && name_some(results(node))
+    has_count(
+        results(node),
+        count_from(row, node, types),
+        operands(node).len(),
+    ) && name_some(results(node))
 }
 
-fn count_from(row: &Signature, node: &Node, types: &[Option<Ty>]) -> Option<u128>
-    ensures { (name : _) (site : _) → operand_types (record site { node = node.now }) ≡ types.now
-        → result ≡ count_from (row_with name row.now) (record site { node = node.now }) row.now.source }
-{
-    match row.source {
-        Source::Nothing => Some(0),
-        Source::AllWritten => Some(out_types(node).len() as u128),
-        Source::Carried => carried_count(row, node, types),
-        _ => Some(1),
-    }
-}
-
-// Whether texts name so many results, where the number is known.
-fn has_count(texts: &[Text], count: Option<u128>) -> bool
-    ensures { result ≡ option_map_or (λ n. count_in texts.now == n) count true }
+// Whether texts name so many results; where the number isn't known, no more than there are operands.
+fn has_count(texts: &[Text], count: Option<u128>, operands: usize) -> bool
+    ensures { result ≡ option_map_or (λ n. count_in texts.now == n) count (nat_le (count_in texts.now) operands) }
 {
     match count {
         Some(count) => names_so_many(texts, count),
-        None => true,
+        None => names_at_most(texts, operands as u128),
+    }
+}
+
+fn names_at_most(texts: &[Text], most: u128) -> bool
+    ensures { result ≡ nat_le (count_in texts.now) most }
+{
+    match count_in(texts) {
+        Some(found) => found <= most,
+        None => false,
     }
 }
 
