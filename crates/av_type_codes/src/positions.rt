@@ -50,9 +50,10 @@ fn are_below(numbers: &[i128], sizes: SizesView) -> bool
     true
 }
 
-// Whether a number is from 0 on and below another one.
+// Whether a number is from 0 on and below another one, or below what that is the greatest number for.
 fn is_below(number: i128, most: u128) -> bool
-    ensures { (total : ℕ) → most ≡ min total (2 ^ 128 - 1) → result ≡ is_pick total number }
+    ensures exact { result ≡ is_pick most number }
+    ensures capped { (total : ℕ) → most ≡ min total (2 ^ 128 - 1) → result ≡ is_pick total number }
 {
     0 <= number && (number as u128) < most
 }
