@@ -1,5 +1,5 @@
 -- What lists of elements list, and the constant that they are.
-use Rattle.std.proofs.Common.{◌≡◌, ◌∙◌, ℕ, ◌+◌, Bool, true, false, ◌&&◌, cond, List, [], ◌∷◌, ◌++◌, map, flat_map, take, get_or, length, eqb, refl, ap, sym, arith}
+use Rattle.std.proofs.Common.{◌≡◌, ◌∙◌, ℕ, Bool, true, false, ◌&&◌, List, [], ◌∷◌, ◌++◌, map, flat_map, refl, ap, sym, arith}
 use Rattle.std.specs.Prelude.{ℤ, pos, ◌==◌, if◌then◌else◌, slice_get, Some}
 use Rattle.std.specs.List.{list_all}
 use Rattle.std.specs.Option.{option_map_or}
@@ -7,11 +7,10 @@ use Rattle.std.proofs.lemmas.Bool.Decides.{nat_tests}
 use Rattle.std.proofs.lemmas.List.{map-append}
 use Rattle.av_bits.specs.declared.types.Width.{Width}
 use Rattle.av_bits.specs.Pattern.{bits_of, pattern_of}
-use Rattle.av_ir.specs.declared.module.Const.{Const}
 use Rattle.av_ir.specs.declared.module.Const.TheVariants.{Splat, Each}
 use Rattle.av_ir.specs.declared.ty.Elem.{Elem}
 use Rattle.av_ir.specs.Values.{width_of}
-use Rattle.av_rules.specs.Constants.{Leaf, Nest, all_same, leaf, nest_of, nests_of, same_pattern}
+use Rattle.av_rules.specs.Constants.{Leaf, Nest, leaf, nest_of, nests_of}
 use Rattle.av_tree.specs.declared.attribute.Element.{Element, Row_of-Element, end_of-Element, more_of-Element, items-the_row-Element, items_hidden-the_row-Element-0}
 use Rattle.av_tree.specs.declared.attribute.Element.TheBlock.{hidden-the_row-Element-0}
 use Rattle.av_tree.specs.declared.attribute.Element.TheVariants as element

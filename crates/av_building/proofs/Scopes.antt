@@ -5,10 +5,7 @@ use Rattle.std.specs.List.{find, position_from}
 use Rattle.std.proofs.lemmas.Iterator.Adapters.{position_from-zero}
 use Rattle.std.specs.Option.{option_copied, option_and_then, option_map, option_map_or}
 use Rattle.std.specs.Str.{bytes_eq}
-use Rattle.av_ir.specs.declared.module.ValueId.{ValueId}
-use Rattle.av_ir.specs.declared.ty.Ty.{Ty}
 use Rattle.av_maps.specs.Applying.{value_of}
-use Rattle.av_maps.specs.declared.roles.Role.{Role}
 use Rattle.av_maps.specs.declared.roles.Role.TheVariants.{Plain}
 use Rattle.av_rules.specs.Scopes.{is_visible, role_named, type_named}
 use Rattle.av_elaboration.specs.Kinds.{value_named}

@@ -11,7 +11,6 @@ use Rattle.std.proofs.Common.{◌++◌, ◌<◌, ◌≤◌, zero, suc, length, t
 use Rattle.std.specs.Prelude.{ℤ, pos, int_le, int_lt, unsigned_abs, is_some, unwrap_or, if◌then◌else◌}
 use Rattle.std.specs.List.{list_all}
 use Rattle.std.specs.Option.{option_and_then, option_flatten}
-use Rattle.av_rules.specs.Entries.{natural}
 use Rattle.av_building.specs.Entries.{is_short, short_of}
 
 short : (z : ℤ) → is_short z ≡ true → short_of z ≡ unsigned_abs z

@@ -1,5 +1,5 @@
 -- Which tags have a map or a property, and which numbers of theirs an operation of a module can hold.
-use Rattle.std.specs.Prelude.{Bool, true, false, ◌||◌, not, ◌&&◌, [], unwrap_or, codes}
+use Rattle.std.specs.Prelude.{Bool, true, false, not, ◌&&◌, [], unwrap_or, codes}
 use Rattle.std.specs.List.{list_all}
 use Rattle.std.specs.Option.{option_map_or}
 use Rattle.av_rules.specs.Entries.{numbers_of}

@@ -1,9 +1,8 @@
 -- The names that are visible at a place of a function, with what they stand for.
-use Rattle.std.specs.Prelude.{ℕ, Bool, ◌+◌, List, [], ◌∷◌, map, Option}
+use Rattle.std.specs.Prelude.{ℕ, Bool, ◌+◌, List, ◌∷◌, map, Option}
 use Rattle.std.specs.List.{find}
 use Rattle.std.specs.Option.{option_map}
 use Rattle.std.specs.Str.{bytes_eq}
-use Rattle.av_ir.specs.declared.module.ValueId.{ValueId}
 use Rattle.av_ir.specs.declared.ty.Ty.{Ty}
 use Rattle.av_maps.specs.Applying.{value_of}
 use Rattle.av_maps.specs.declared.roles.Role.{Role}

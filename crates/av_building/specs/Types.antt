@@ -1,7 +1,6 @@
 -- Which types the values of a module can have: within the limits of their sizes.
 use Rattle.std.specs.Prelude.{ℕ, ◌^◌, Bool, true, ◌&&◌, if◌then◌else◌, nat_le, nat_lt, List, length, Option, Some, None}
 use Rattle.std.specs.List.{list_all}
-use Rattle.std.specs.Option.{option_and_then, option_map}
 use Rattle.av_ir.specs.declared.ty.Extent.{Extent}
 use Rattle.av_ir.specs.declared.ty.Extent.TheVariants as extent
 use Rattle.av_ir.specs.declared.ty.Ty.{Ty}

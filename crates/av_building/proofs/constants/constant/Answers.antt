@@ -3,7 +3,7 @@ use Rattle.std.specs.Prelude.{codes}
 use Rattle.std.specs.Option.{option_map_or}
 use Rattle.av_elaboration.specs.Fields.{const_of, leaves_of}
 use Rattle.av_rules.specs.Entries.{entry_of}
-use Rattle.av_building.specs.Constants.{const_from, elem_at, patterns}
+use Rattle.av_building.specs.Constants.{const_from, patterns}
 use Rattle.av_building.proofs.Nests.{const-is}
 use Rattle.av_building.proofs.constants.constant.Goals as goal
 

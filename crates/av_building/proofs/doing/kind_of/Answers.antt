@@ -1,5 +1,4 @@
-use Rattle.std.proofs.Common.{◌≡◌, ◌∙◌, List, ℕ, ◌++◌, take, true, ap, sym, subst}
-use Rattle.std.specs.Prelude.{IfOk}
+use Rattle.std.proofs.Common.{◌≡◌, ◌∙◌, true, ap, sym, subst}
 use Rattle.av_elaboration.specs.Kinds.{does, done_by}
 use Rattle.av_elaboration.specs.declared.tag.Tag.{Tag}
 use Rattle.av_ir.specs.declared.module.OpKind.TheVariants as kind

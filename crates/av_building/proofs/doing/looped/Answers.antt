@@ -1,4 +1,4 @@
-use Rattle.std.proofs.Common.{◌≡◌, ◌∙◌, List, ℕ, ap}
+use Rattle.std.proofs.Common.{◌∙◌, List, ℕ, ap}
 use Rattle.std.specs.Prelude.{codes}
 use Rattle.av_elaboration.specs.Fields.{step_at}
 use Rattle.av_elaboration.specs.Kinds.{carried_names, use_at, values_named}

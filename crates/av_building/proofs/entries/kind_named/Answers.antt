@@ -1,5 +1,5 @@
 use Rattle.av_dialects.specs.Rows.{kinds}
-use Rattle.std.proofs.Common.{◌∙◌, ap, rules}
+use Rattle.std.proofs.Common.{rules}
 use Rattle.av_building.proofs.entries.kind_named.Goals as goal
 
 pub returns-in-Some : goal.returns-in-Some

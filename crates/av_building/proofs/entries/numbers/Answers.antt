@@ -1,7 +1,7 @@
-use Rattle.std.proofs.Common.{◌≡◌, ◌∙◌, List, [], ap, map, subst, true}
+use Rattle.std.proofs.Common.{◌≡◌, ◌∙◌, List, [], ap, map, subst}
 use Rattle.std.specs.Prelude.{ℤ, IfOk, unsigned_abs, unwrap_or, Option}
 use Rattle.std.specs.List.{list_all}
-use Rattle.av_building.specs.Entries.{is_short, short_of}
+use Rattle.av_building.specs.Entries.{is_short}
 use Rattle.av_building.proofs.Shorts.{shorts}
 use Rattle.av_building.proofs.entries.numbers.Goals as goal
 

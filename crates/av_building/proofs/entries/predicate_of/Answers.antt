@@ -1,5 +1,5 @@
 use Rattle.av_dialects.specs.Rows.{predicates}
-use Rattle.std.proofs.Common.{◌∙◌, ap, rules}
+use Rattle.std.proofs.Common.{rules}
 use Rattle.av_building.proofs.entries.predicate_of.Goals as goal
 
 pub returns-in-Some : goal.returns-in-Some

@@ -1,4 +1,4 @@
-use Rattle.std.proofs.Common.{◌∙◌, ◌+◌, List, ℕ, drop, ap}
+use Rattle.std.proofs.Common.{◌∙◌, ◌+◌, drop, ap}
 use Rattle.av_rules.specs.Entries.{Segments}
 use Rattle.av_rules.specs.Views.{fields}
 use Rattle.av_building.proofs.Shorts.{dropped}

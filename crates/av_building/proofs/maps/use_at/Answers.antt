@@ -1,7 +1,7 @@
 use Rattle.std.proofs.Common.{◌≡◌, ◌∙◌, ap, subst}
 use Rattle.std.specs.Prelude.{IfOk}
 use Rattle.av_elaboration.specs.Fields.{map_at}
-use Rattle.av_elaboration.specs.Kinds.{use_at, values_named}
+use Rattle.av_elaboration.specs.Kinds.{values_named}
 use Rattle.av_maps.specs.Applying.{normal_use}
 use Rattle.av_rules.specs.Places.{Site}
 use Rattle.av_building.specs.Scopes.{bindings_of}

@@ -1,4 +1,4 @@
-use Rattle.std.proofs.Common.{◌∙◌, List, ap}
+use Rattle.std.proofs.Common.{◌∙◌, ap}
 use Rattle.std.specs.Option.{option_map_or}
 use Rattle.av_elaboration.specs.declared.tag.Tag.TheVariants.{Module}
 use Rattle.av_building.proofs.Scopes.{among}

@@ -1,4 +1,4 @@
-use Rattle.std.proofs.Common.{arith, sym}
+use Rattle.std.proofs.Common.{arith}
 use Rattle.av_building.specs.Types.{is_size}
 use Rattle.av_building.proofs.Shorts.{more-held, not-held}
 use Rattle.av_sites.specs.TypeViews.{sizes_seen}

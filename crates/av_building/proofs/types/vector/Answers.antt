@@ -1,9 +1,8 @@
-use Rattle.std.proofs.Common.{◌≡◌, ◌∙◌, List, ℕ, Bool, true, false, cond, Option, Some, None, refl, ap, sym}
+use Rattle.std.proofs.Common.{◌≡◌, ◌∙◌, List, ℕ, Bool, true, false, Some, None, refl, ap, sym}
 use Rattle.std.specs.Prelude.{if◌then◌else◌}
 use Rattle.std.specs.List.{list_all}
-use Rattle.av_ir.specs.declared.ty.Ty.{Ty}
 use Rattle.av_ir.specs.declared.ty.Ty.TheVariants as ty
-use Rattle.av_building.specs.Types.{is_size, taken_sizes}
+use Rattle.av_building.specs.Types.{is_size}
 use Rattle.av_building.proofs.Shorts.{not-sizes}
 use Rattle.av_sites.specs.TypeViews.{sizes_seen}
 use Rattle.av_building.proofs.types.vector.Goals as goal

@@ -1,4 +1,4 @@
-use Rattle.std.proofs.Common.{◌≡◌, ◌∙◌, List, ◌∷◌, true, ap, sym, subst}
+use Rattle.std.proofs.Common.{◌≡◌, ◌∙◌, ◌∷◌, true, ap, sym, subst}
 use Rattle.std.specs.Prelude.{map, reverse}
 use Rattle.av_building.specs.Scopes.{all_differ, entry, is_defined}
 use Rattle.av_building.proofs.Defined.{differ-more, entry_from, inserts}
