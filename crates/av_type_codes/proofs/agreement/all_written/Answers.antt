@@ -1,4 +1,4 @@
-use Rattle.std.proofs.Common.{◌<◌, ◌∙◌, [], None, arith, refl, option_map}
+use Rattle.std.proofs.Common.{◌∙◌, [], None, arith, refl, option_map}
 use Rattle.std.specs.Prelude.{unwrap_or}
 use Rattle.std.specs.Cmp.Lexicographic.{pointwise}
 use Rattle.av_rules.specs.Agreement.{is_written_as}

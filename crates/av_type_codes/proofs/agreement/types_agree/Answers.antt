@@ -1,11 +1,8 @@
-use Rattle.std.proofs.Common.{◌≡◌, ◌∙◌, ◌&&◌, List, [], Option, ap, option_map, sym, true}
+use Rattle.std.proofs.Common.{◌∙◌, ◌&&◌, List, [], Option, ap, option_map, sym}
 use Rattle.std.specs.List.{list_all}
 use Rattle.std.specs.Option.{option_map_or}
-use Rattle.std.specs.Cmp.Lexicographic.{pointwise}
 use Rattle.av_ir.specs.declared.ty.Ty.{Ty}
-use Rattle.av_rules.specs.Agreement.{asks_types, hands_on_types, if_known, is_value_type, is_written_as, regions_agree, results_known, types_written, writes_types}
-use Rattle.av_rules.specs.Places.{operand_types}
-use Rattle.av_rules.specs.Views.{fields}
+use Rattle.av_rules.specs.Agreement.{asks_types, hands_on_types, if_known, is_value_type, regions_agree, results_known, types_written, writes_types}
 use Rattle.av_types.specs.Texts.{is_type}
 use Rattle.av_sites.specs.Parts.{holder_with}
 use Rattle.av_sites.specs.Rows.{row_with}

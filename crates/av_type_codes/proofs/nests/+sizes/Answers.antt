@@ -1,4 +1,4 @@
-use Rattle.std.proofs.Common.{◌≡◌, ◌<◌, ◌∙◌, ap, arith, drop, length, map, nat_eq, sym, ◌+◌}
+use Rattle.std.proofs.Common.{◌∙◌, ap, arith, drop, length, map, nat_eq, sym, ◌+◌}
 use Rattle.av_rules.specs.Constants.{common_sizes, nest_of}
 use Rattle.av_sites.specs.TypeViews.{sizes_seen}
 use Rattle.av_tree.specs.declared.attribute.Element.{Element}

@@ -1,4 +1,4 @@
-use Rattle.std.proofs.Common.{◌≤◌, ◌∙◌, arith, sym}
+use Rattle.std.proofs.Common.{◌∙◌, arith, sym}
 use Rattle.av_sites.specs.TypeViews.{sizes_seen}
 use Rattle.av_type_codes.proofs.Typed.{below_ended}
 use Rattle.av_type_codes.proofs.positions.are_below.Goals as goal

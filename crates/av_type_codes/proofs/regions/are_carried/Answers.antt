@@ -1,4 +1,4 @@
-use Rattle.std.proofs.Common.{◌≤◌, ◌∙◌, arith, sym}
+use Rattle.std.proofs.Common.{◌∙◌, arith, sym}
 use Rattle.av_type_codes.proofs.Typed.{typed_ended}
 use Rattle.av_type_codes.proofs.regions.are_carried.Goals as goal
 

@@ -3,8 +3,7 @@ use Rattle.std.specs.List.{list_all}
 use Rattle.std.specs.Option.{option_map_or}
 use Rattle.av_ir.specs.declared.ty.Ty.{Ty}
 use Rattle.av_rules.specs.Agreement.{are_typed}
-use Rattle.av_rules.specs.Views.{fields, inside}
-use Rattle.av_tree.specs.declared.node.Body.{Body}
+use Rattle.av_rules.specs.Views.{inside}
 use Rattle.av_type_codes.proofs.regions.regions_agree.Goals as goal
 
 pub returns : goal.returns

@@ -1,4 +1,4 @@
-use Rattle.std.proofs.Common.{◌≡◌, ◌+◌, ◌-◌, ◌<◌, ◌∙◌, ◌&&◌, ◌∷◌, [], ℕ, ap, arith, get_or, length}
+use Rattle.std.proofs.Common.{◌+◌, ◌-◌, ◌∙◌, ◌&&◌, ◌∷◌, [], ℕ, ap, arith, get_or}
 use Rattle.std.specs.Prelude.{◌==◌}
 use Rattle.av_sites.specs.TypeViews.{sizes_seen}
 use Rattle.av_types.specs.Relations.{stretch}
