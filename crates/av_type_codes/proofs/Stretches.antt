@@ -43,7 +43,7 @@ module _ (xs ys : List ℕ) (scales scaled : Bool) (before k : ℕ) where
       ∙ ap (λ j. stretch (get_or xs k 0 ∷ drop (k + 1) xs) scales (get_or ys (before + k) 0 ∷ drop j ys) scaled) next
       ∙ one (get_or xs k 0) (get_or ys (before + k) 0) (drop (k + 1) xs) (drop (before + (k + 1)) ys) scales scaled same
       ∙ ap (λ t. stretch (get_or xs k 0 ∷ []) (t && scales) (get_or ys (before + k) 0 ∷ []) (t && scaled)
-          && stretch (drop (k + 1) xs) scales (drop (before + (k + 1)) ys) scaled) (is_end xs k below)
+      && stretch (drop (k + 1) xs) scales (drop (before + (k + 1)) ys) scaled) (is_end xs k below)
       ∙ ap (λ t. t && stretch (drop (k + 1) xs) scales (drop (before + (k + 1)) ys) scaled) (sym asked)
 
   pub stretch_fails : (b : Bool) → before + length xs ≡ length ys → k < length xs

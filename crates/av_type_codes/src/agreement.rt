@@ -39,13 +39,11 @@ pub fn types_agree(
     is_last: bool,
     holder: Option<Holder>,
 ) -> bool
-    ensures {
-        (name own : _) (site : _)
+    ensures { (name own : _) (site : _)
         → operand_types (record site { node = node.now; is_last = is_last; holder = option_map (holder_with own) holder.entry }) ≡ types.now
         → results_seen results.entry
-            ≡ result_types (row_with name row.now) (record site { node = node.now; is_last = is_last; holder = option_map (holder_with own) holder.entry })
-        → result ≡ types_agree (row_with name row.now) (record site { node = node.now; is_last = is_last; holder = option_map (holder_with own) holder.entry })
-    }
+        ≡ result_types (row_with name row.now) (record site { node = node.now; is_last = is_last; holder = option_map (holder_with own) holder.entry })
+        → result ≡ types_agree (row_with name row.now) (record site { node = node.now; is_last = is_last; holder = option_map (holder_with own) holder.entry }) }
 {
     if !every_written(&IsType, row, node) {
         return false;
@@ -64,20 +62,16 @@ pub fn types_agree(
 
 // Whether each type is written as it is, or left out; where the number of results is known, one or none for each.
 fn writes_types(row: &Signature, node: &Node, types: &[Option<Ty>], results: ResultTypes) -> bool
-    ensures {
-        (name : _) (site : _) → operand_types (record site { node = node.now }) ≡ types.now
+    ensures { (name : _) (site : _) → operand_types (record site { node = node.now }) ≡ types.now
         → results_seen results.entry ≡ result_types (row_with name row.now) (record site { node = node.now })
-        → result ≡ writes_types (row_with name row.now) (record site { node = node.now })
-    }
+        → result ≡ writes_types (row_with name row.now) (record site { node = node.now }) }
 {
     are_as_written(node, types, results) && has_places(row, node, types)
 }
 
 fn are_as_written(node: &Node, types: &[Option<Ty>], results: ResultTypes) -> bool
-    ensures {
-        result ≡ (pointwise is_written_as (fields node.now).in_types types.now
-            && option_map_or (pointwise is_written_as (fields node.now).out_types) (results_seen results.entry) true)
-    }
+    ensures { result ≡ (pointwise is_written_as (fields node.now).in_types types.now
+        && option_map_or (pointwise is_written_as (fields node.now).out_types) (results_seen results.entry) true) }
 {
     // The types of operands are given as those of carried values are.
     are_written(in_types(node), ResultTypes::Carried(types))
@@ -85,10 +79,8 @@ fn are_as_written(node: &Node, types: &[Option<Ty>], results: ResultTypes) -> bo
 }
 
 fn has_places(row: &Signature, node: &Node, types: &[Option<Ty>]) -> bool
-    ensures {
-        (name : _) (site : _) → operand_types (record site { node = node.now }) ≡ types.now
-        → result ≡ option_map_or (λ n. length (fields node.now).out_types == n) (count_from (row_with name row.now) (record site { node = node.now }) row.now.source) true
-    }
+    ensures { (name : _) (site : _) → operand_types (record site { node = node.now }) ≡ types.now
+        → result ≡ option_map_or (λ n. length (fields node.now).out_types == n) (count_from (row_with name row.now) (record site { node = node.now }) row.now.source) true }
 {
     is_number(out_types(node).len(), count_from(row, node, types))
 }
@@ -134,11 +126,9 @@ fn is_written_as(text: &Option<TypeText>, ty: Option<TypeView>) -> bool
 }
 
 fn all_agree(demands: &[Demand], node: &Node, types: &[Option<Ty>], results: ResultTypes) -> bool
-    ensures {
-        (row : _) (site : _) → operand_types (record site { node = node.now }) ≡ types.now
+    ensures { (row : _) (site : _) → operand_types (record site { node = node.now }) ≡ types.now
         → results_seen results.entry ≡ result_types row (record site { node = node.now })
-        → result ≡ list_all (asks_types row (record site { node = node.now })) demands.now
-    }
+        → result ≡ list_all (asks_types row (record site { node = node.now })) demands.now }
 {
     for demand in demands {
         if !asks_types(*demand, node, types, results) {
@@ -149,11 +139,9 @@ fn all_agree(demands: &[Demand], node: &Node, types: &[Option<Ty>], results: Res
 }
 
 fn asks_types(demand: Demand, node: &Node, types: &[Option<Ty>], results: ResultTypes) -> bool
-    ensures {
-        (row : _) (site : _) → operand_types (record site { node = node.now }) ≡ types.now
+    ensures { (row : _) (site : _) → operand_types (record site { node = node.now }) ≡ types.now
         → results_seen results.entry ≡ result_types row (record site { node = node.now })
-        → result ≡ asks_types row (record site { node = node.now }) demand
-    }
+        → result ≡ asks_types row (record site { node = node.now }) demand }
 {
     match demand {
         Demand::Is(place, class) => is_of_class(class, type_at(node, types, place)),
@@ -170,10 +158,8 @@ fn asks_types(demand: Demand, node: &Node, types: &[Option<Ty>], results: Result
 }
 
 fn pair_agrees(node: &Node, types: &[Option<Ty>], pair: Pair, first: Place, second: Place) -> bool
-    ensures {
-        (site : _) → operand_types (record site { node = node.now }) ≡ types.now
-        → result ≡ if_both (is_pair (record site { node = node.now }) pair) (type_at (record site { node = node.now }) first) (type_at (record site { node = node.now }) second)
-    }
+    ensures { (site : _) → operand_types (record site { node = node.now }) ≡ types.now
+        → result ≡ if_both (is_pair (record site { node = node.now }) pair) (type_at (record site { node = node.now }) first) (type_at (record site { node = node.now }) second) }
 {
     are_pair(
         node,

@@ -15,19 +15,15 @@ use av_tree::Node;
 
 /// Whether the constants and positions of an operation fit, whose operands have these types.
 pub fn values_fit(row: &Signature, node: &Node, types: &[Option<Ty>]) -> bool
-    ensures {
-        (name : _) (site : _) → operand_types (record site { node = node.now }) ≡ types.now
-        → result ≡ values_fit (row_with name row.now) (record site { node = node.now })
-    }
+    ensures { (name : _) (site : _) → operand_types (record site { node = node.now }) ≡ types.now
+        → result ≡ values_fit (row_with name row.now) (record site { node = node.now }) }
 {
     all_fit(row.demands, node, types)
 }
 
 fn all_fit(demands: &[Demand], node: &Node, types: &[Option<Ty>]) -> bool
-    ensures {
-        (site : _) → operand_types (record site { node = node.now }) ≡ types.now
-        → result ≡ list_all (asks_values (record site { node = node.now })) demands.now
-    }
+    ensures { (site : _) → operand_types (record site { node = node.now }) ≡ types.now
+        → result ≡ list_all (asks_values (record site { node = node.now })) demands.now }
 {
     for demand in demands {
         if !asks_values(*demand, node, types) {
@@ -38,10 +34,8 @@ fn all_fit(demands: &[Demand], node: &Node, types: &[Option<Ty>]) -> bool
 }
 
 fn asks_values(demand: Demand, node: &Node, types: &[Option<Ty>]) -> bool
-    ensures {
-        (site : _) → operand_types (record site { node = node.now }) ≡ types.now
-        → result ≡ asks_values (record site { node = node.now }) demand
-    }
+    ensures { (site : _) → operand_types (record site { node = node.now }) ≡ types.now
+        → result ≡ asks_values (record site { node = node.now }) demand }
 {
     match demand {
         Demand::ValueFits => value_fits(

@@ -16,9 +16,7 @@ use av_types::is_index;
 
 /// Whether two types of an operation are to each other like this, where both are known.
 pub fn are_pair(node: &Node, pair: Pair, a: Option<TypeView>, b: Option<TypeView>) -> bool
-    ensures {
-        (site : _) → result ≡ if_both (is_pair (record site { node = node.now }) pair) (option_map type_seen a.entry) (option_map type_seen b.entry)
-    }
+    ensures { (site : _) → result ≡ if_both (is_pair (record site { node = node.now }) pair) (option_map type_seen a.entry) (option_map type_seen b.entry) }
 {
     match a {
         Some(a) => match b {

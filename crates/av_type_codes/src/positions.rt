@@ -12,9 +12,7 @@ use av_sites::{SizesView, TypeView, size_at, size_count};
 /// Whether each number of a position is from 0 on and below the size at its place.
 #[tactic(auto, using(crate::proofs::Typed::below_none))]
 pub(crate) fn is_within(numbers: Option<&[i128]>, ty: Option<TypeView>) -> bool
-    ensures {
-        result ≡ option_map_or (λ list. are_below list (sizes_of (option_map type_seen ty.entry))) (option_map (λ list. list.now) numbers.entry) true
-    }
+    ensures { result ≡ option_map_or (λ list. are_below list (sizes_of (option_map type_seen ty.entry))) (option_map (λ list. list.now) numbers.entry) true }
 {
     match numbers {
         Some(numbers) => match sizes_of(ty) {
@@ -64,10 +62,8 @@ pub(crate) fn are_picks(
     first: Option<TypeView>,
     second: Option<TypeView>,
 ) -> bool
-    ensures {
-        result ≡ option_map_or (list_all (is_pick (sum (sizes_of (option_map type_seen first.entry)) + sum (sizes_of (option_map type_seen second.entry)))))
-            (option_map (λ list. list.now) numbers.entry) true
-    }
+    ensures { result ≡ option_map_or (list_all (is_pick (sum (sizes_of (option_map type_seen first.entry)) + sum (sizes_of (option_map type_seen second.entry)))))
+        (option_map (λ list. list.now) numbers.entry) true }
 {
     let lanes = lanes_of(first).saturating_add(lanes_of(second));
     match numbers {

@@ -41,23 +41,15 @@ enum ArgumentTypes<'t> {
 
 /// Whether the arguments of an operation's regions have their types, where these are known.
 pub(crate) fn regions_agree(row: &Signature, node: &Node, types: &[Option<Ty>]) -> bool
-    ensures {
-        (name : _) (site : _) → operand_types (record site { node = node.now }) ≡ types.now
-        → result ≡ regions_agree (row_with name row.now) (record site { node = node.now })
-    }
+    ensures { (name : _) (site : _) → operand_types (record site { node = node.now }) ≡ types.now
+        → result ≡ regions_agree (row_with name row.now) (record site { node = node.now }) }
 {
     all_typed(regions(node), argument_types(row, node, types))
 }
 
-fn argument_types<'t>(
-    row: &Signature,
-    node: &'t Node,
-    types: &'t [Option<Ty>],
-) -> ArgumentTypes<'t>
-    ensures {
-        (name : _) (site : _) → operand_types (record site { node = node.now }) ≡ types.now
-        → arguments_seen result ≡ argument_types (row_with name row.now) (record site { node = node.now }) row.now.role
-    }
+fn argument_types<'t>(row: &Signature, node: &'t Node, types: &'t [Option<Ty>]) -> ArgumentTypes<'t>
+    ensures { (name : _) (site : _) → operand_types (record site { node = node.now }) ≡ types.now
+        → arguments_seen result ≡ argument_types (row_with name row.now) (record site { node = node.now }) row.now.role }
 {
     match row.role {
         Role::Holds(_, arguments, _) => match arguments {
@@ -74,10 +66,8 @@ fn argument_types<'t>(
 
 // The inputs of the type of a function.
 fn inputs_of(node: &Node) -> ArgumentTypes
-    ensures {
-        (row : _) (site : _) (n : ℕ) (e : _)
-        → arguments_seen result ≡ argument_types row (record site { node = node.now }) (role.Holds n arguments.Inputs e)
-    }
+    ensures { (row : _) (site : _) (n : ℕ) (e : _)
+        → arguments_seen result ≡ argument_types row (record site { node = node.now }) (role.Holds n arguments.Inputs e) }
 {
     match function_type(node) {
         Some(function) => ArgumentTypes::Inputs(function.inputs),
@@ -93,9 +83,7 @@ fn function_type(node: &Node) -> Option<FunctionView>
 }
 
 fn all_typed(bodies: &[Body], arguments: ArgumentTypes) -> bool
-    ensures {
-        result ≡ list_all (λ body. option_map_or (are_typed (inside body).args) (arguments_seen arguments.entry) true) bodies.now
-    }
+    ensures { result ≡ list_all (λ body. option_map_or (are_typed (inside body).args) (arguments_seen arguments.entry) true) bodies.now }
 {
     bodies.iter().all(|body| are_typed(args(body), arguments))
 }
@@ -164,19 +152,15 @@ pub(crate) fn hands_on_types(
     is_last: bool,
     holder: Option<Holder>,
 ) -> bool
-    ensures {
-        (name own : _) (site : _) → operand_types site ≡ types.now
-        → result ≡ hands_on_types (row_with name row.now) (record site { is_last = is_last; holder = option_map (holder_with own) holder.entry })
-    }
+    ensures { (name own : _) (site : _) → operand_types site ≡ types.now
+        → result ≡ hands_on_types (row_with name row.now) (record site { is_last = is_last; holder = option_map (holder_with own) holder.entry }) }
 {
     !is_in_place(row, is_last, holder) || are_handed_on(types, holder)
 }
 
 fn are_handed_on(types: &[Option<Ty>], holder: Option<Holder>) -> bool
-    ensures {
-        (own : _) → result ≡ option_map_or (λ h. option_map_or (pointwise (if_both same_type) types.now) h.hands_on true)
-            (option_map (holder_with own) holder.entry) true
-    }
+    ensures { (own : _) → result ≡ option_map_or (λ h. option_map_or (pointwise (if_both same_type) types.now) h.hands_on true)
+        (option_map (holder_with own) holder.entry) true }
 {
     match holder {
         Some(holder) => match holder.hands_on {

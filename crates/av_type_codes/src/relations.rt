@@ -38,7 +38,9 @@ pub fn same_sizes(a: TypeView, b: TypeView) -> bool
         TypeView::Scalar(_) => is_scalar(b),
         TypeView::MemRef { sizes, .. } => has_extents(b, sizes),
         TypeView::Vector {
-            sizes, scalable, ..
+            sizes,
+            scalable,
+            ..
         } => has_sizes(b, sizes, scalable),
     }
 }
@@ -96,13 +98,13 @@ fn is_extent(size: SizeText, other: SizeText) -> bool
 }
 
 fn has_sizes(ty: TypeView, others: SizesView, scaled: bool) -> bool
-    ensures {
-        (elem : _) → result ≡ same_sizes (Vector (record { sizes = sizes_seen others.entry; scalable = scaled }) elem) (type_seen ty.entry)
-    }
+    ensures { (elem : _) → result ≡ same_sizes (Vector (record { sizes = sizes_seen others.entry; scalable = scaled }) elem) (type_seen ty.entry) }
 {
     match ty {
         TypeView::Vector {
-            sizes, scalable, ..
+            sizes,
+            scalable,
+            ..
         } => are_sizes(others, sizes) && scaled == scalable,
         _ => false,
     }
@@ -146,9 +148,7 @@ pub fn stretches_to(a: TypeView, b: TypeView) -> bool
 }
 
 fn fills(ty: TypeView, others: SizesView, scaled: bool, to: Elem) -> bool
-    ensures {
-        result ≡ stretches_to (type_seen ty.entry) (Vector (record { sizes = sizes_seen others.entry; scalable = scaled }) to)
-    }
+    ensures { result ≡ stretches_to (type_seen ty.entry) (Vector (record { sizes = sizes_seen others.entry; scalable = scaled }) to) }
 {
     match ty {
         TypeView::Scalar(elem) => is_elem(elem, to),
@@ -168,10 +168,8 @@ fn fills(ty: TypeView, others: SizesView, scaled: bool, to: Elem) -> bool
 // Whether the sizes are those at the end of others, each the same or stretched from 1.
 fn stretch(sizes: SizesView, scales: bool, others: SizesView, scaled: bool) -> bool
     requires { length (sizes_seen sizes) ≤ length (sizes_seen others) }
-    ensures {
-        result ≡ stretch (sizes_seen sizes.entry) scales
-            (drop (length (sizes_seen others.entry) - length (sizes_seen sizes.entry)) (sizes_seen others.entry)) scaled
-    }
+    ensures { result ≡ stretch (sizes_seen sizes.entry) scales
+        (drop (length (sizes_seen others.entry) - length (sizes_seen sizes.entry)) (sizes_seen others.entry)) scaled }
 {
     let count = size_count(sizes);
     let before = size_count(others) - count;

@@ -56,10 +56,8 @@ fn passes_known<T: TypeTest>(test: &T, ty: Option<TypeView>) -> bool
 
 /// How many results an operation has whose operands have these types, where that is known.
 pub fn count_from(row: &Signature, node: &Node, types: &[Option<Ty>]) -> Option<u128>
-    ensures {
-        (name : _) (site : _) → operand_types (record site { node = node.now }) ≡ types.now
-        → result ≡ count_from (row_with name row.now) (record site { node = node.now }) row.now.source
-    }
+    ensures { (name : _) (site : _) → operand_types (record site { node = node.now }) ≡ types.now
+        → result ≡ count_from (row_with name row.now) (record site { node = node.now }) row.now.source }
 {
     match row.source {
         Source::Nothing => Some(0),

@@ -10,9 +10,7 @@ ghost use Rattle.av_sites.specs.Rows.{row_with};
 ghost use Rattle.av_tree.specs.declared.written.TypeText.{TypeText};
 
 use av_signatures::Signature;
-use av_sites::{
-    args, attrs, function_in, in_types, is_dropped, out_types, properties, regions,
-};
+use av_sites::{args, attrs, function_in, in_types, is_dropped, out_types, properties, regions};
 use av_tree::{Attr, Body, BodyArg, Named, Node, TypeText};
 
 /// A question that is asked of written types.
@@ -26,10 +24,8 @@ pub trait TextTest {
 
 /// Whether all types that stand at an operation pass, but those in what is dropped.
 pub fn every_written<T: TextTest>(test: &T, row: &Signature, node: &Node) -> bool
-    ensures {
-        (own : _) (site : _)
-        → result ≡ list_all (T.passes test.now) (types_written (row_with own row.now) (record site { node = node.now }))
-    }
+    ensures { (own : _) (site : _)
+        → result ≡ list_all (T.passes test.now) (types_written (row_with own row.now) (record site { node = node.now })) }
 {
     if !every_given(test, in_types(node)) {
         return false;
@@ -102,10 +98,8 @@ fn every_entry<T: TextTest>(test: &T, row: &Signature, node: &Node) -> bool
 }
 
 fn every_kept<T: TextTest>(test: &T, row: &Signature, entries: &[Named]) -> bool
-    ensures {
-        (own : _) → result ≡ list_all (T.passes test.now)
-            (flat_map (λ e. types_in e.value) (filter (λ e. not (is_dropped (row_with own row.now) e.name)) entries.now))
-    }
+    ensures { (own : _) → result ≡ list_all (T.passes test.now)
+        (flat_map (λ e. types_in e.value) (filter (λ e. not (is_dropped (row_with own row.now) e.name)) entries.now)) }
 {
     for entry in entries {
         if !passes_entry(test, row, entry) {
@@ -117,9 +111,7 @@ fn every_kept<T: TextTest>(test: &T, row: &Signature, entries: &[Named]) -> bool
 
 // Whether an entry is dropped, or all types in it pass.
 fn passes_entry<T: TextTest>(test: &T, row: &Signature, entry: &Named) -> bool
-    ensures {
-        (own : _) → result ≡ (is_dropped (row_with own row.now) entry.now.name || list_all (T.passes test.now) (types_in entry.now.value))
-    }
+    ensures { (own : _) → result ≡ (is_dropped (row_with own row.now) entry.now.name || list_all (T.passes test.now) (types_in entry.now.value)) }
 {
     is_dropped(row, entry.name.as_slice()) || every_in(test, &entry.value)
 }

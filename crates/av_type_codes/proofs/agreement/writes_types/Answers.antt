@@ -18,9 +18,9 @@ returns-then-are_as_written c = λ name site p r.
     c.has_places.ensures name site p
     ∙ ap (λ t. t && (option_map_or (λ n. length (fields c.args.node.now).out_types == n) (count_from (row_with name c.args.row.now) (record site { node = c.args.node.now }) c.args.row.now.source) true)) (sym c.if-are_as_written.true ∙ c.are_as_written.ensures
     ∙ ap (λ (ts : List (Option Ty)). pointwise is_written_as (fields c.args.node.now).in_types ts
-        && option_map_or (pointwise is_written_as (fields c.args.node.now).out_types) (results_seen c.args.results) true) (sym p)
+    && option_map_or (pointwise is_written_as (fields c.args.node.now).out_types) (results_seen c.args.results) true) (sym p)
     ∙ ap (λ (rs : Option (List (Option Ty))). pointwise is_written_as (fields c.args.node.now).in_types (operand_types (record site { node = c.args.node.now }))
-        && option_map_or (pointwise is_written_as (fields c.args.node.now).out_types) rs true) r)
+    && option_map_or (pointwise is_written_as (fields c.args.node.now).out_types) rs true) r)
     ∙ both_swapped (pointwise is_written_as (fields c.args.node.now).in_types (operand_types (record site { node = c.args.node.now })))
     (option_map_or (λ n. length (fields c.args.node.now).out_types == n) (count_from (row_with name c.args.row.now) (record site { node = c.args.node.now }) c.args.row.now.source) true)
     (option_map_or (pointwise is_written_as (fields c.args.node.now).out_types) (result_types (row_with name c.args.row.now) (record site { node = c.args.node.now })) true)
@@ -30,9 +30,9 @@ returns-else-are_as_written c = λ name site p r.
     c.if-are_as_written.false
     ∙ ap (λ t. t && (option_map_or (λ n. length (fields c.args.node.now).out_types == n) (count_from (row_with name c.args.row.now) (record site { node = c.args.node.now }) c.args.row.now.source) true)) (sym c.if-are_as_written.false ∙ c.are_as_written.ensures
     ∙ ap (λ (ts : List (Option Ty)). pointwise is_written_as (fields c.args.node.now).in_types ts
-        && option_map_or (pointwise is_written_as (fields c.args.node.now).out_types) (results_seen c.args.results) true) (sym p)
+    && option_map_or (pointwise is_written_as (fields c.args.node.now).out_types) (results_seen c.args.results) true) (sym p)
     ∙ ap (λ (rs : Option (List (Option Ty))). pointwise is_written_as (fields c.args.node.now).in_types (operand_types (record site { node = c.args.node.now }))
-        && option_map_or (pointwise is_written_as (fields c.args.node.now).out_types) rs true) r)
+    && option_map_or (pointwise is_written_as (fields c.args.node.now).out_types) rs true) r)
     ∙ both_swapped (pointwise is_written_as (fields c.args.node.now).in_types (operand_types (record site { node = c.args.node.now })))
     (option_map_or (λ n. length (fields c.args.node.now).out_types == n) (count_from (row_with name c.args.row.now) (record site { node = c.args.node.now }) c.args.row.now.source) true)
     (option_map_or (pointwise is_written_as (fields c.args.node.now).out_types) (result_types (row_with name c.args.row.now) (record site { node = c.args.node.now })) true)

@@ -11,9 +11,9 @@ loop-at-preserved c =
     c.stretches_at.result (omega arith) (omega arith)
     (c.stretches_at.ensures
     ∙ ap (λ (n : ℕ). stretch (n ∷ []) ((c.loop-at.at + 1 == c.size_count-count.result) && c.args.scales) (c.size_in-other.result ∷ [])
-        ((c.loop-at.at + 1 == c.size_count-count.result) && c.args.scaled)) c.size_in-size.ensures
+    ((c.loop-at.at + 1 == c.size_count-count.result) && c.args.scaled)) c.size_in-size.ensures
     ∙ ap (λ (m : ℕ). stretch (get_or (sizes_seen c.args.sizes) c.loop-at.at 0 ∷ []) ((c.loop-at.at + 1 == c.size_count-count.result) && c.args.scales) (m ∷ [])
-        ((c.loop-at.at + 1 == c.size_count-count.result) && c.args.scaled)) c.size_in-other.ensures
+    ((c.loop-at.at + 1 == c.size_count-count.result) && c.args.scaled)) c.size_in-other.ensures
     ∙ ap (λ (n : ℕ). stretch (get_or (sizes_seen c.args.sizes) c.loop-at.at 0 ∷ []) ((c.loop-at.at + 1 == n) && c.args.scales)
-        (get_or (sizes_seen c.args.others) (c.size_count.result - c.size_count-count.result + c.loop-at.at) 0 ∷ []) ((c.loop-at.at + 1 == n) && c.args.scaled)) c.size_count-count.ensures)
+    (get_or (sizes_seen c.args.others) (c.size_count.result - c.size_count-count.result + c.loop-at.at) 0 ∷ []) ((c.loop-at.at + 1 == n) && c.args.scaled)) c.size_count-count.ensures)
     c.if-not-stretches_at.false c.loop-at.invariant

@@ -10,5 +10,5 @@ abbrev pub invariant-loop-entry : goal.invariant-loop-entry
 invariant-loop-entry g l =
     (own : List ℕ)
     → list_all (g.T.TextTest.passes l.test)
-        (flat_map (λ e. types_in e.value) (filter (λ e. not (is_dropped (row_with own l.row) e.name)) (drop l.entry-index l.entries)))
+    (flat_map (λ e. types_in e.value) (filter (λ e. not (is_dropped (row_with own l.row) e.name)) (drop l.entry-index l.entries)))
     ≡ list_all (g.T.TextTest.passes l.test) (flat_map (λ e. types_in e.value) (filter (λ e. not (is_dropped (row_with own l.row) e.name)) l.entries))
