@@ -1,5 +1,5 @@
 -- What is asked of something that may be found, and tests of which the second is asked where the first holds.
-use Rattle.std.proofs.Common.{◌≡◌, ◌∙◌, ap, sym, Bool, true, false, ◌&&◌, ◌||◌, not, Option, Some, None, Bor}
+use Rattle.std.proofs.Common.{◌≡◌, ◌∙◌, ap, sym, Bool, true, false, ◌&&◌, ◌||◌, Option, Some, None, Bor}
 use Rattle.std.specs.Option.{option_copied, option_map_or}
 
 pub asked-of : {A : Type 0} {r : Option (Bor A)} {o : Option A} (asks : A → Bool) (b : Bor A) → option_copied r ≡ o → r ≡ Some b

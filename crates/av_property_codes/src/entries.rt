@@ -16,10 +16,8 @@ use av_tree::{Alias, Named, Node};
 
 /// Whether each entry that isn't dropped is a property in its form or the mark, and stands once.
 pub fn has_good_entries(row: &Signature, node: &Node, aliases: &[Alias]) -> bool
-    ensures {
-        (name : _) (site : _)
-        → result ≡ has_good_entries (row_with name row.now) (record site { node = node.now; aliases = aliases.now })
-    }
+    ensures { (name : _) (site : _)
+        → result ≡ has_good_entries (row_with name row.now) (record site { node = node.now; aliases = aliases.now }) }
 {
     are_allowed(aliases, row, node)
 }
@@ -86,9 +84,7 @@ fn is_alone(row: &Signature, node: &Node, entry: &Named) -> bool
 fn times(row: &Signature, entries: &[Named], name: &[u8]) -> usize
     ensures { result ≡ count_by (is_kept_as row.now name.now) entries.now }
 {
-    let named = entries
-        .iter()
-        .filter(|entry| is_kept_as(row, name, entry));
+    let named = entries.iter().filter(|entry| is_kept_as(row, name, entry));
     named.count()
 }
 

@@ -30,10 +30,8 @@ pub fn is_affine(
     node: &Node,
     aliases: &[Alias],
 ) -> Result<bool, AllocError>
-    ensures {
-        IfOk result (λ holds. (name : _) (site : _)
-            → holds ≡ is_affine (row_with name row.now) (record site { node = node.now; aliases = aliases.now }))
-    }
+    ensures { IfOk result (λ holds. (name : _) (site : _)
+        → holds ≡ is_affine (row_with name row.now) (record site { node = node.now; aliases = aliases.now })) }
 {
     are_affine(alloc, row.properties, node, aliases)
 }
@@ -44,10 +42,8 @@ fn are_affine(
     node: &Node,
     aliases: &[Alias],
 ) -> Result<bool, AllocError>
-    ensures {
-        IfOk result (λ holds. (site : _)
-            → holds ≡ list_all (λ p. is_affine_of (record site { node = node.now; aliases = aliases.now }) (property p.0.now p.1) p.1) properties.now)
-    }
+    ensures { IfOk result (λ holds. (site : _)
+        → holds ≡ list_all (λ p. is_affine_of (record site { node = node.now; aliases = aliases.now }) (property p.0.now p.1) p.1) properties.now) }
 {
     for property in properties {
         if !is_affine_of(alloc, node, aliases, property.0.as_bytes(), property.1)? {
@@ -64,10 +60,8 @@ fn is_affine_of(
     label: &[u8],
     form: Form,
 ) -> Result<bool, AllocError>
-    ensures {
-        IfOk result (λ holds. (site : _)
-            → holds ≡ is_affine_of (record site { node = node.now; aliases = aliases.now }) (property label.now form) form)
-    }
+    ensures { IfOk result (λ holds. (site : _)
+        → holds ≡ is_affine_of (record site { node = node.now; aliases = aliases.now }) (property label.now form) form) }
 {
     match form {
         Form::Map(..) => match map_at(node, aliases, label) {
@@ -98,30 +92,22 @@ fn is_affine_set_text(alloc: Global, text: &SetText) -> Result<bool, AllocError>
 
 /// Whether maps have at most 8 results, and sets at most 64 rows.
 pub fn is_few(row: &Signature, node: &Node, aliases: &[Alias]) -> bool
-    ensures {
-        (name : _) (site : _)
-        → result ≡ is_few (row_with name row.now) (record site { node = node.now; aliases = aliases.now })
-    }
+    ensures { (name : _) (site : _)
+        → result ≡ is_few (row_with name row.now) (record site { node = node.now; aliases = aliases.now }) }
 {
     are_few(row.properties, node, aliases)
 }
 
 fn are_few(properties: &[Property], node: &Node, aliases: &[Alias]) -> bool
-    ensures {
-        (site : _)
-        → result ≡ list_all (λ p. is_few_of (record site { node = node.now; aliases = aliases.now }) (property p.0.now p.1) p.1) properties.now
-    }
+    ensures { (site : _)
+        → result ≡ list_all (λ p. is_few_of (record site { node = node.now; aliases = aliases.now }) (property p.0.now p.1) p.1) properties.now }
 {
-    properties
-        .iter()
-        .all(|property| is_few_of(node, aliases, property.0.as_bytes(), property.1))
+    properties.iter().all(|property| is_few_of(node, aliases, property.0.as_bytes(), property.1))
 }
 
 fn is_few_of(node: &Node, aliases: &[Alias], label: &[u8], form: Form) -> bool
-    ensures {
-        (site : _)
-        → result ≡ is_few_of (record site { node = node.now; aliases = aliases.now }) (property label.now form) form
-    }
+    ensures { (site : _)
+        → result ≡ is_few_of (record site { node = node.now; aliases = aliases.now }) (property label.now form) form }
 {
     match form {
         Form::Map(..) => match map_at(node, aliases, label) {

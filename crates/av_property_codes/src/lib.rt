@@ -4,12 +4,12 @@
 mod entries;
 mod expressions;
 mod forms;
+mod loops;
 mod maps;
 mod operands;
-mod loops;
 
 pub use entries::has_good_entries;
 pub use expressions::{is_affine, is_few};
 pub use forms::has_needed;
-pub use maps::{has_arity, has_roles};
 pub use loops::steps;
+pub use maps::{has_arity, has_roles};

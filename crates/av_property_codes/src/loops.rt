@@ -23,9 +23,7 @@ pub fn steps(row: &Signature, node: &Node) -> bool
 fn has_steps(properties: &[Property], node: &Node) -> bool
     ensures { (site : _) → result ≡ list_all (λ p. steps_of (record site { node = node.now }) (property p.0.now p.1) p.1) properties.now }
 {
-    properties
-        .iter()
-        .all(|property| is_step_of(node, property.0.as_bytes(), property.1))
+    properties.iter().all(|property| is_step_of(node, property.0.as_bytes(), property.1))
 }
 
 fn is_step_of(node: &Node, label: &[u8], form: Form) -> bool

@@ -31,7 +31,11 @@ pub fn number_in(name: &[u8], value: &Attr) -> Option<i128>
     ensures { result ≡ number_of name.now value.now }
 {
     match value {
-        Attr::Number { value, ty } => if is_named(name, ty) { Some(*value) } else { None },
+        Attr::Number { value, ty } => if is_named(name, ty) {
+            Some(*value)
+        } else {
+            None
+        },
         _ => None,
     }
 }
@@ -42,7 +46,11 @@ pub fn array_in<'t>(name: &[u8], value: &'t Attr) -> Option<&'t [i128]>
 {
     match value {
         Attr::Array { elem, numbers } => {
-            if is_named(name, elem) { Some(numbers.as_slice()) } else { None }
+            if is_named(name, elem) {
+                Some(numbers.as_slice())
+            } else {
+                None
+            }
         }
         _ => None,
     }

@@ -40,5 +40,9 @@ fn segments_in(numbers: &[i128]) -> Option<Segments>
 fn from_zero(number: i128) -> Option<u128>
     ensures { result ≡ natural (2 ^ 128) number }
 {
-    if 0 <= number { Some(number as u128) } else { None }
+    if 0 <= number {
+        Some(number as u128)
+    } else {
+        None
+    }
 }

@@ -70,7 +70,11 @@ pub fn view_of(ty: &Ty) -> TypeView
 pub fn spelled(text: &TypeText) -> Option<TypeView>
     ensures { option_map type_seen result ≡ spelled text.now }
 {
-    if is_type(text) { named_type(text) } else { None }
+    if is_type(text) {
+        named_type(text)
+    } else {
+        None
+    }
 }
 
 fn named_type(text: &TypeText) -> Option<TypeView>
@@ -237,7 +241,9 @@ pub fn with_elements(ty: TypeView, elem: Elem) -> TypeView
         TypeView::Scalar(_) => TypeView::Scalar(elem),
         TypeView::MemRef { sizes, .. } => TypeView::MemRef { sizes, elem },
         TypeView::Vector {
-            sizes, scalable, ..
+            sizes,
+            scalable,
+            ..
         } => TypeView::Vector {
             sizes,
             scalable,

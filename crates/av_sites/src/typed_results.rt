@@ -34,15 +34,9 @@ pub enum ResultTypes<'t> {
 }
 
 /// The types of all results of an operation whose operands have these types.
-pub fn result_types<'t>(
-    row: &Signature,
-    node: &'t Node,
-    types: &'t [Option<Ty>],
-) -> ResultTypes<'t>
-    ensures {
-        (name : _) (site : _) → operand_types (record site { node = node.now }) ≡ types.now
-        → results_seen result ≡ result_types (row_with name row.now) (record site { node = node.now })
-    }
+pub fn result_types<'t>(row: &Signature, node: &'t Node, types: &'t [Option<Ty>]) -> ResultTypes<'t>
+    ensures { (name : _) (site : _) → operand_types (record site { node = node.now }) ≡ types.now
+        → results_seen result ≡ result_types (row_with name row.now) (record site { node = node.now }) }
 {
     match row.source {
         Source::Nothing => ResultTypes::Nothing,
@@ -56,15 +50,9 @@ pub fn result_types<'t>(
 }
 
 // The type of the one result of an operation.
-fn result_type<'t>(
-    source: Source,
-    node: &'t Node,
-    types: &'t [Option<Ty>],
-) -> Option<TypeView<'t>>
-    ensures {
-        (site : _) → operand_types (record site { node = node.now }) ≡ types.now
-        → option_map type_seen result ≡ result_type (record site { node = node.now }) source
-    }
+fn result_type<'t>(source: Source, node: &'t Node, types: &'t [Option<Ty>]) -> Option<TypeView<'t>>
+    ensures { (site : _) → operand_types (record site { node = node.now }) ≡ types.now
+        → option_map type_seen result ≡ result_type (record site { node = node.now }) source }
 {
     match source {
         Source::Nothing | Source::AllWritten | Source::Carried => None,

@@ -2,7 +2,6 @@ use Rattle.std.proofs.Common.{◌∙◌, ap, sym}
 use Rattle.std.specs.Option.{option_map}
 use Rattle.av_rules.specs.Entries.{numbers_of}
 use Rattle.av_rules.specs.Properties.{asks_arity, is_short}
-use Rattle.av_rules.specs.Typing.{type_at}
 use Rattle.av_sites.specs.TypeViews.{type_seen}
 use Rattle.av_property_codes.proofs.maps.asks_arity.Goals as goal
 

@@ -1,7 +1,6 @@
-use Rattle.std.proofs.Common.{◌∙◌, ◌+◌, ap, length, sym}
+use Rattle.std.proofs.Common.{◌∙◌, ◌+◌, ap, length}
 use Rattle.std.specs.Prelude.{◌==◌}
 use Rattle.av_rules.specs.Properties.{parts}
-use Rattle.av_rules.specs.Views.{fields}
 use Rattle.av_property_codes.specs.Used.{used}
 use Rattle.av_property_codes.proofs.Parts.{used-is}
 use Rattle.av_property_codes.proofs.maps.has_parameters.Goals as goal
