@@ -1,0 +1,3 @@
+pub mod Computed
+pub mod Owners
+pub mod Modes

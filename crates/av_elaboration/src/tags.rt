@@ -1,0 +1,92 @@
+//! What each operation is in a module, as one table in the order of the operations' numbers.
+
+use super::Tag;
+use super::Tag::{Binary, Cast};
+use av_bits::{BinOp, CastOp, Kind9, Pred};
+
+/// The operation of each name.
+pub const TAGS: &[(&str, Tag)] = &[
+    ("builtin.module", Tag::Module),
+    ("func.func", Tag::Function),
+    ("func.return", Tag::FuncReturn),
+    ("arith.constant", Tag::Constant),
+    ("arith.addi", Binary(BinOp::Addi)),
+    ("arith.subi", Binary(BinOp::Subi)),
+    ("arith.muli", Binary(BinOp::Muli)),
+    ("arith.divsi", Binary(BinOp::Divsi)),
+    ("arith.divui", Binary(BinOp::Divui)),
+    ("arith.remsi", Binary(BinOp::Remsi)),
+    ("arith.remui", Binary(BinOp::Remui)),
+    ("arith.floordivsi", Binary(BinOp::Floordivsi)),
+    ("arith.ceildivsi", Binary(BinOp::Ceildivsi)),
+    ("arith.ceildivui", Binary(BinOp::Ceildivui)),
+    ("arith.andi", Binary(BinOp::Andi)),
+    ("arith.ori", Binary(BinOp::Ori)),
+    ("arith.xori", Binary(BinOp::Xori)),
+    ("arith.shli", Binary(BinOp::Shli)),
+    ("arith.shrsi", Binary(BinOp::Shrsi)),
+    ("arith.shrui", Binary(BinOp::Shrui)),
+    ("arith.minsi", Binary(BinOp::Minsi)),
+    ("arith.minui", Binary(BinOp::Minui)),
+    ("arith.maxsi", Binary(BinOp::Maxsi)),
+    ("arith.maxui", Binary(BinOp::Maxui)),
+    ("arith.cmpi", Tag::Compare),
+    ("arith.select", Tag::Select),
+    ("arith.extsi", Cast(CastOp::Extsi)),
+    ("arith.extui", Cast(CastOp::Extui)),
+    ("arith.trunci", Cast(CastOp::Trunci)),
+    ("arith.index_cast", Cast(CastOp::IndexCast)),
+    ("arith.index_castui", Cast(CastOp::IndexCastui)),
+    ("affine.for", Tag::AffineFor),
+    ("affine.if", Tag::AffineIf),
+    ("affine.yield", Tag::AffineYield),
+    ("affine.apply", Tag::AffineApply),
+    ("affine.min", Tag::AffineMin),
+    ("affine.max", Tag::AffineMax),
+    ("affine.load", Tag::AffineLoad),
+    ("affine.store", Tag::AffineStore),
+    ("memref.load", Tag::MemrefLoad),
+    ("memref.store", Tag::MemrefStore),
+    ("memref.dim", Tag::MemrefDim),
+    ("scf.for", Tag::ScfFor),
+    ("scf.yield", Tag::ScfYield),
+    ("vector.load", Tag::VectorLoad),
+    ("vector.store", Tag::VectorStore),
+    ("vector.maskedload", Tag::VectorMaskedLoad),
+    ("vector.maskedstore", Tag::VectorMaskedStore),
+    ("vector.broadcast", Tag::VectorBroadcast),
+    ("vector.create_mask", Tag::VectorCreateMask),
+    ("vector.reduction", Tag::VectorReduction),
+    ("vector.extract", Tag::VectorExtract),
+    ("vector.insert", Tag::VectorInsert),
+    ("vector.shuffle", Tag::VectorShuffle),
+    ("vector.step", Tag::VectorStep),
+    ("vector.vscale", Tag::VectorVscale),
+];
+
+/// The predicates, in the order of their numbers.
+pub const PREDICATES: &[Pred] = &[
+    Pred::Eq,
+    Pred::Ne,
+    Pred::Slt,
+    Pred::Sle,
+    Pred::Sgt,
+    Pred::Sge,
+    Pred::Ult,
+    Pred::Ule,
+    Pred::Ugt,
+    Pred::Uge,
+];
+
+/// The kinds of combining, in the order of their words.
+pub const KINDS: &[Kind9] = &[
+    Kind9::Add,
+    Kind9::Mul,
+    Kind9::And,
+    Kind9::Or,
+    Kind9::Xor,
+    Kind9::Minsi,
+    Kind9::Minui,
+    Kind9::Maxsi,
+    Kind9::Maxui,
+];

@@ -1,0 +1,4 @@
+pub mod Trees
+pub mod Walk
+pub mod Sizes
+pub mod Both

@@ -1,0 +1,10 @@
+use Rattle.std.proofs.Common.{◌∙◌, sym}
+use Rattle.std.proofs.lemmas.List.Folds.{list_all-map}
+use Rattle.av_rules.specs.Properties.{has_roles_of}
+use Rattle.av_signatures.specs.Rows.{Property, property}
+use Rattle.av_property_codes.proofs.maps.has_roles.Goals as goal
+
+pub returns : goal.returns
+returns c name site h =
+    c.have_roles.ensures site h
+    ∙ sym (list_all-map (λ (p : Property). has_roles_of (record site { node = c.args.node.now; aliases = c.args.aliases.now }) p p.form) (λ p. property p.0.now p.1) c.args.row.now.properties.now)

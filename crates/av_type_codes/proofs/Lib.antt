@@ -1,0 +1,4 @@
+pub mod InNests
+pub mod Sixes
+pub mod Stretches
+pub mod Typed

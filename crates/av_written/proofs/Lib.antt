@@ -1,0 +1,4 @@
+pub mod Inside
+pub mod Scans
+pub mod Stops
+pub mod TypeLists
