@@ -4,7 +4,7 @@ while true; do
   sleep ${1:-480}
   exec 9>/work/h/save.lock; flock 9
   parents=""
-  for d in /work/h/land /work/h/f /work/h/o /work/h/r2 /work/h/r3 /work/h/r4 /work/h/n /work/h/q /work/h/t /work/h/v /work/h/c /work/h/w /work/h/kit; do
+  for d in /work/h/land /work/h/f /work/h/o /work/h/r2 /work/h/r3 /work/h/r4 /work/h/n /work/h/q /work/h/t /work/h/v /work/h/c /work/h/w /work/h/y /work/h/kit; do
     [ -d $d/.git ] || continue
     cd $d
     rm -f /tmp/save.index; cp .git/index /tmp/save.index 2>/dev/null
