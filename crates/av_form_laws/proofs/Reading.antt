@@ -248,7 +248,7 @@ row-law number node same h =
     let place = (out-Node node).place in
     let values = values_of (form_of number) (out-Node node) in
     let read = form-law (results_at number) (form_of number) node h in (
-  read.0,
-  sym (reading-law number place (words_of (form_of number) (out-Node node)) values read.0)
-      ∙ ap (λ (head : Head). roll-Node (made head (results_at number) (form_of number) values)) (sym same) ∙ read.1,
-)
+      read.0,
+      sym (reading-law number place (words_of (form_of number) (out-Node node)) values read.0)
+          ∙ ap (λ (head : Head). roll-Node (made head (results_at number) (form_of number) values)) (sym same) ∙ read.1,
+    )
