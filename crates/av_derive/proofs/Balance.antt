@@ -21,9 +21,10 @@ use Rattle.av_tree.specs.declared.table.values.ValueRule.TheVariants as values
 use Rattle.av_tree.specs.declared.table.arith.ArithRule.TheVariants as arith
 use Rattle.av_tree.specs.declared.table.affine.AffineRule.TheVariants as affine
 use Rattle.av_tree.specs.declared.table.subscripts.SubscriptRule.TheVariants as subscripts
-use Rattle.av_tree.specs.declared.table.memref.MemRefRule.TheVariants as memref
-use Rattle.av_tree.specs.declared.table.scf.ScfRule.TheVariants as scf
-use Rattle.av_tree.specs.declared.table.vector.VectorRule.TheVariants as vector
+use Rattle.std.specs.List.{list_all}
+use Rattle.av_dialects.specs.Rows.{Part, forms}
+use Rattle.av_tree.specs.Forms.{form_symbols}
+use Rattle.av_tree.proofs.Forms.{of-form}
 use Rattle.av_tree.specs.Table.{symbols_of, name_of}
 use Rattle.av_tree.specs.Classes.{bracket_of}
 use Rattle.av_tree.specs.Needs.{need_of}
@@ -66,7 +67,15 @@ downs (_ ∷ rest) = downs rest
 abbrev is_even : Rule → Bool
 is_even r = nat_le (dip (symbols_of r)) (closed_by (name_of r)) && nat_eq (downs (symbols_of r)) (ups (symbols_of r))
 
+abbrev is_even_form : List Part → Bool
+is_even_form ps = nat_le (dip (form_symbols ps)) 0 && nat_eq (downs (form_symbols ps)) (ups (form_symbols ps))
+
+even-forms : IsTrue (list_all is_even_form forms)
+unfolding forms
+even-forms = refl
+
 even : (r : Rule) → IsTrue (is_even r)
+even (rule.Operation n) = of-form is_even_form refl even-forms n
 even (rule.File file.WholeFile) = refl
 even (rule.File file.NoMoreAliases) = refl
 even (rule.File file.NextAlias) = refl
@@ -253,12 +262,6 @@ even (rule.Value values.NoMoreResults) = refl
 even (rule.Value values.NextResult) = refl
 even (rule.Value values.OneResult) = refl
 even (rule.Value values.CountedResults) = refl
-even (rule.Arith arith.ArithConstant) = refl
-even (rule.Arith arith.ArithOverflowing) = refl
-even (rule.Arith arith.ArithBinary) = refl
-even (rule.Arith arith.ArithCmpi) = refl
-even (rule.Arith arith.ArithSelect) = refl
-even (rule.Arith arith.ArithCast) = refl
 even (rule.Arith arith.BoolConstant) = refl
 even (rule.Arith arith.NumberConstant) = refl
 even (rule.Arith arith.DenseConstant) = refl
@@ -271,11 +274,6 @@ even (rule.Arith arith.BufferSelected) = refl
 even (rule.Arith arith.VectorThenSelected) = refl
 even (rule.Arith arith.OnlySelected) = refl
 even (rule.Arith arith.SelectedByVector) = refl
-even (rule.Affine affine.AffineFor) = refl
-even (rule.Affine affine.AffineIf) = refl
-even (rule.Affine affine.AffineMapOp) = refl
-even (rule.Affine affine.AffineLoad) = refl
-even (rule.Affine affine.AffineStore) = refl
 even (rule.Affine affine.GreatestOf) = refl
 even (rule.Affine affine.PlainLowerBound) = refl
 even (rule.Affine affine.LeastOf) = refl
@@ -320,22 +318,6 @@ even (rule.Subscript subscripts.NegatedSubscriptBase) = refl
 even (rule.Subscript subscripts.DimensionValue) = refl
 even (rule.Subscript subscripts.SymbolValue) = refl
 even (rule.Subscript subscripts.SubscriptInBrackets) = refl
-even (rule.MemRef memref.MemRefLoad) = refl
-even (rule.MemRef memref.MemRefStore) = refl
-even (rule.MemRef memref.MemRefDim) = refl
-even (rule.Scf scf.ScfFor) = refl
-even (rule.Vector vector.VectorLoad) = refl
-even (rule.Vector vector.VectorStore) = refl
-even (rule.Vector vector.VectorMaskedLoad) = refl
-even (rule.Vector vector.VectorMaskedStore) = refl
-even (rule.Vector vector.VectorBroadcast) = refl
-even (rule.Vector vector.VectorCreateMask) = refl
-even (rule.Vector vector.VectorReduction) = refl
-even (rule.Vector vector.VectorExtract) = refl
-even (rule.Vector vector.VectorInsert) = refl
-even (rule.Vector vector.VectorShuffle) = refl
-even (rule.Vector vector.VectorStep) = refl
-even (rule.Vector vector.VectorVscale) = refl
 
 sign-fits : (b : Bracket) (most d after dips : ℕ) → d + needed b after ≤ most → asked b dips ≤ d
     → Fitting most d b × (opened b d + after ≤ most) × (dips ≤ opened b d)

@@ -19,14 +19,11 @@ use Rattle.av_tree.specs.declared.table.values.ValueRule.TheVariants as values
 use Rattle.av_tree.specs.declared.table.arith.ArithRule.TheVariants as arith
 use Rattle.av_tree.specs.declared.table.affine.AffineRule.TheVariants as affine
 use Rattle.av_tree.specs.declared.table.subscripts.SubscriptRule.TheVariants as subscripts
-use Rattle.av_tree.specs.declared.table.memref.MemRefRule.TheVariants as memref
-use Rattle.av_tree.specs.declared.table.scf.ScfRule.TheVariants as scf
-use Rattle.av_tree.specs.declared.table.vector.VectorRule.TheVariants as vector
 use Rattle.av_tree.specs.Table.{symbols_of, name_of}
 use Rattle.av_tree.specs.Classes.{bracket_of}
 use Rattle.av_tree.specs.Needs.{need_of}
 use Rattle.av_tree.specs.Signs.{counts_sign}
-use Rattle.av_tree.specs.Sets.{class_number, first_of, follow_of, has, is_same_class}
+use Rattle.av_tree.specs.Sets.{class_number, operation_in, first_of, follow_of, has, is_same_class}
 use Rattle.av_tree.proofs.Choice.{both, implied, implies, starts_before}
 
 abbrev is_calm : Rule → Class → Bool
@@ -38,7 +35,8 @@ is_calm_always r =
     (is_calm r (class.Sign sign.CloseSquare) && is_calm r (class.Sign sign.CloseAngle))
 
 calm_always : (r : Rule) → IsTrue (is_calm_always r)
-unfolding class_number first_of follow_of has is_same_class
+unfolding class_number operation_in first_of follow_of has is_same_class
+calm_always (rule.Operation n) = refl
 calm_always (rule.File file.WholeFile) = refl
 calm_always (rule.File file.NoMoreAliases) = refl
 calm_always (rule.File file.NextAlias) = refl
@@ -225,12 +223,6 @@ calm_always (rule.Value values.NoMoreResults) = refl
 calm_always (rule.Value values.NextResult) = refl
 calm_always (rule.Value values.OneResult) = refl
 calm_always (rule.Value values.CountedResults) = refl
-calm_always (rule.Arith arith.ArithConstant) = refl
-calm_always (rule.Arith arith.ArithOverflowing) = refl
-calm_always (rule.Arith arith.ArithBinary) = refl
-calm_always (rule.Arith arith.ArithCmpi) = refl
-calm_always (rule.Arith arith.ArithSelect) = refl
-calm_always (rule.Arith arith.ArithCast) = refl
 calm_always (rule.Arith arith.BoolConstant) = refl
 calm_always (rule.Arith arith.NumberConstant) = refl
 calm_always (rule.Arith arith.DenseConstant) = refl
@@ -243,11 +235,6 @@ calm_always (rule.Arith arith.BufferSelected) = refl
 calm_always (rule.Arith arith.VectorThenSelected) = refl
 calm_always (rule.Arith arith.OnlySelected) = refl
 calm_always (rule.Arith arith.SelectedByVector) = refl
-calm_always (rule.Affine affine.AffineFor) = refl
-calm_always (rule.Affine affine.AffineIf) = refl
-calm_always (rule.Affine affine.AffineMapOp) = refl
-calm_always (rule.Affine affine.AffineLoad) = refl
-calm_always (rule.Affine affine.AffineStore) = refl
 calm_always (rule.Affine affine.GreatestOf) = refl
 calm_always (rule.Affine affine.PlainLowerBound) = refl
 calm_always (rule.Affine affine.LeastOf) = refl
@@ -292,22 +279,6 @@ calm_always (rule.Subscript subscripts.NegatedSubscriptBase) = refl
 calm_always (rule.Subscript subscripts.DimensionValue) = refl
 calm_always (rule.Subscript subscripts.SymbolValue) = refl
 calm_always (rule.Subscript subscripts.SubscriptInBrackets) = refl
-calm_always (rule.MemRef memref.MemRefLoad) = refl
-calm_always (rule.MemRef memref.MemRefStore) = refl
-calm_always (rule.MemRef memref.MemRefDim) = refl
-calm_always (rule.Scf scf.ScfFor) = refl
-calm_always (rule.Vector vector.VectorLoad) = refl
-calm_always (rule.Vector vector.VectorStore) = refl
-calm_always (rule.Vector vector.VectorMaskedLoad) = refl
-calm_always (rule.Vector vector.VectorMaskedStore) = refl
-calm_always (rule.Vector vector.VectorBroadcast) = refl
-calm_always (rule.Vector vector.VectorCreateMask) = refl
-calm_always (rule.Vector vector.VectorReduction) = refl
-calm_always (rule.Vector vector.VectorExtract) = refl
-calm_always (rule.Vector vector.VectorInsert) = refl
-calm_always (rule.Vector vector.VectorShuffle) = refl
-calm_always (rule.Vector vector.VectorStep) = refl
-calm_always (rule.Vector vector.VectorVscale) = refl
 
 no_closing : (c : Class) → bracket_of c ≡ bracket.None → bracket_of c ≡ bracket.Closes → ⊥
 no_closing c e f = absurd (cc)

@@ -1,5 +1,5 @@
 -- For each name a row that ends soon, needs no bracket more than the name, and counts no sign: checked for each name.
-use Rattle.std.proofs.Common.{◌≡◌, ℕ, suc, ◌+◌, ◌<◌, ◌≤◌, Bool, true, false, ◌&&◌, not, nat_le, nat_lt, IsTrue, List, [], ◌∷◌, refl, arith}
+use Rattle.std.proofs.Common.{◌≡◌, ℕ, suc, ◌+◌, ◌<◌, ◌≤◌, Bool, true, false, ◌&&◌, not, nat_le, nat_lt, IsTrue, List, [], ◌∷◌, Option, None, Some, codes, refl, arith}
 use Rattle.std.proofs.lemmas.Bool.Decides.{nat_tests}
 use Rattle.av_tree.specs.declared.table.Symbol.{Symbol}
 use Rattle.av_tree.specs.declared.table.Symbol.TheVariants as symbol
@@ -29,12 +29,20 @@ use Rattle.av_tree.specs.declared.table.values.ValueRule.TheVariants as values
 use Rattle.av_tree.specs.declared.table.arith.ArithRule.TheVariants as arith
 use Rattle.av_tree.specs.declared.table.affine.AffineRule.TheVariants as affine
 use Rattle.av_tree.specs.declared.table.subscripts.SubscriptRule.TheVariants as subscripts
-use Rattle.av_tree.specs.declared.table.vector.VectorRule.TheVariants as vector
+use Rattle.av_dialects.specs.Rows.{forms, names, number_of}
 use Rattle.av_tree.specs.Table.{symbols_of, name_of}
 use Rattle.av_tree.specs.Needs.{need_of}
 use Rattle.av_tree.specs.Signs.{counts_sign}
 use Rattle.av_tree.proofs.Choice.{both}
 use Rattle.av_tree.proofs.Depth.{need_of_name}
+
+abbrev number_or_none : Option ℕ → ℕ
+number_or_none (Some n) = n
+number_or_none None = 0
+
+-- an operation that is written by its name alone
+unfoldable pub an_operation_alone : ℕ
+an_operation_alone = number_or_none (number_of (codes "vector.vscale"))
 
 -- the row by which a name is derived in the fewest steps
 unfoldable pub shortest_of : Name → Rule
@@ -52,7 +60,7 @@ shortest_of (name.Function functions_name.OptionalVisibility) = rule.Function fu
 shortest_of (name.Function functions_name.FunctionArguments) = rule.Function functions.NoFunctionArguments
 shortest_of (name.Function functions_name.MoreFunctionArguments) = rule.Function functions.NoMoreFunctionArguments
 shortest_of (name.Function functions_name.FunctionArgument) = rule.Function functions.ArgumentOfFunction
-shortest_of (name.Function functions_name.Form) = rule.Vector vector.VectorVscale
+shortest_of (name.Function functions_name.Form) = rule.Operation an_operation_alone
 shortest_of (name.Region regions_name.Operations) = rule.Region regions.NoMoreOperations
 shortest_of (name.Region regions_name.Operation) = rule.Region regions.TerminatorOperation
 shortest_of (name.Region regions_name.AfterTerminator) = rule.Region regions.TerminatorLast
@@ -221,7 +229,7 @@ abbrev is_short : Name → Bool
 is_short x = nat_lt (steps (symbols_of (shortest_of x))) (steps_of x) && (nat_le (need_of (shortest_of x)) (need_of_name x) && not (counts_sign (shortest_of x)))
 
 short : (x : Name) → IsTrue (is_short x)
-unfolding shortest_of steps_of
+unfolding an_operation_alone forms names shortest_of steps_of
 short (name.File file_name.File) = refl
 short (name.File file_name.Aliases) = refl
 short (name.File file_name.MapOrSet) = refl

@@ -1,12 +1,13 @@
 -- What one row and one token do to what the machine keeps.
-use Rattle.std.proofs.Common.{◌≡◌, ℕ, suc, ◌+◌, ◌≤◌, false, List, [], ◌∷◌, ◌++◌, None, reverse, take, length, refl, sym, ◌∙◌, ap, subst, arith, append_assoc, add-one}
+use Rattle.std.proofs.Common.{◌≡◌, ℕ, suc, IsTrue, ◌+◌, ◌<◌, ◌≤◌, false, List, [], ◌∷◌, ◌++◌, None, reverse, take, length, refl, sym, ◌∙◌, ap, subst, arith, append_assoc, add-one}
 use Rattle.std.proofs.lemmas.List.{take_all, reverse-append, reverse-reverse, append-nil}
 use Rattle.av_tree.specs.declared.class.Class.{Class}
 use Rattle.av_tree.specs.declared.table.Symbol.{Symbol}
 use Rattle.av_tree.specs.declared.table.Symbol.TheVariants as symbol
 use Rattle.av_tree.specs.declared.table.Name.{Name}
 use Rattle.av_tree.specs.declared.table.Rule.{Rule}
-use Rattle.av_tree.specs.Table.{symbols_of, name_of}
+use Rattle.av_tree.specs.Table.{is_lighter, lead, symbols_of, name_of}
+use Rattle.av_derive.proofs.Weights.{expanded}
 use Rattle.av_tree.specs.Classes.{bracket_of}
 use Rattle.av_derive.specs.declared.machine.Event.{Event}
 use Rattle.av_derive.specs.declared.machine.Event.TheVariants as event
@@ -122,3 +123,12 @@ finished m limits cs n all e empty under same within =
       brackets = rw whole at within;
       signs = rw same at ((e.signs under).within);
     }
+
+-- A name's place on the stack is taken by a row that weighs less.
+pub stack-lighter : (r : Rule) (x : Name) (old popped new : List Symbol) → IsTrue (is_lighter r) → old ≡ popped ++ symbol.Rows x ∷ [] → name_of r ≡ x
+    → new ≡ popped ++ reverse (symbols_of r) → lead (reverse new) < lead (reverse old)
+stack-lighter r x old popped new light e f g =
+    let after : reverse new ≡ symbols_of r ++ reverse popped = ap reverse g ∙ row_on popped (symbols_of r) in
+    let before : reverse old ≡ symbol.Rows (name_of r) ∷ reverse popped =
+    ap reverse e ∙ next_off popped (symbol.Rows x) ∙ ap (λ (y : Name). symbol.Rows y ∷ reverse popped) (sym f) in
+    rw (after, before) (expanded r (reverse popped) light)

@@ -2,6 +2,7 @@
 use Rattle.std.specs.Prelude.{ℕ, ◌+◌, Bool, false, not, ◌&&◌, ◌||◌, ◌==◌, nat_le, List, [], ◌∷◌, ◌++◌, length, take, drop, map, Option, Some, None, if◌then◌else◌, codes, bytes_eq}
 use Rattle.std.specs.List.{list_all}
 use Rattle.std.specs.Char.{is_ascii_digit}
+use Rattle.av_dialects.specs.Rows.{form_of, number_of}
 use Rattle.av_lex.specs.declared.token.Kind.{Kind}
 use Rattle.av_lex.specs.declared.token.Kind.TheVariants as kind
 use Rattle.av_lex.specs.declared.token.Token.{Token}
@@ -9,37 +10,15 @@ use Rattle.av_lex.specs.declared.class.Class.TheVariants as byte
 use Rattle.av_lex.specs.Bytes.{in_class}
 use Rattle.av_tree.specs.declared.class.Class.{Class}
 use Rattle.av_tree.specs.declared.class.Class.TheVariants as class
+use Rattle.av_tree.specs.Forms.{is_by_hand}
 use Rattle.av_tree.specs.declared.class.Keyword.{Keyword}
 use Rattle.av_tree.specs.declared.class.Keyword.TheVariants as key
 
--- the words that rows ask for, each with its keyword
+-- the words that rows ask for, each with its keyword; the names of operations aside, whose forms are made of parts
 unfoldable pub keywords : List (List ℕ × Keyword)
 keywords =
     (codes "module", key.Module) ∷
     (codes "func.func", key.FuncFunc) ∷
-    (codes "arith.constant", key.ArithConstant) ∷
-    (codes "arith.cmpi", key.ArithCmpi) ∷
-    (codes "arith.select", key.ArithSelect) ∷
-    (codes "affine.for", key.AffineFor) ∷
-    (codes "affine.if", key.AffineIf) ∷
-    (codes "affine.load", key.AffineLoad) ∷
-    (codes "affine.store", key.AffineStore) ∷
-    (codes "memref.load", key.MemRefLoad) ∷
-    (codes "memref.store", key.MemRefStore) ∷
-    (codes "memref.dim", key.MemRefDim) ∷
-    (codes "scf.for", key.ScfFor) ∷
-    (codes "vector.load", key.VectorLoad) ∷
-    (codes "vector.store", key.VectorStore) ∷
-    (codes "vector.maskedload", key.VectorMaskedLoad) ∷
-    (codes "vector.maskedstore", key.VectorMaskedStore) ∷
-    (codes "vector.broadcast", key.VectorBroadcast) ∷
-    (codes "vector.create_mask", key.VectorCreateMask) ∷
-    (codes "vector.reduction", key.VectorReduction) ∷
-    (codes "vector.extract", key.VectorExtract) ∷
-    (codes "vector.insert", key.VectorInsert) ∷
-    (codes "vector.shuffle", key.VectorShuffle) ∷
-    (codes "vector.step", key.VectorStep) ∷
-    (codes "vector.vscale", key.VectorVscale) ∷
     (codes "memref", key.MemRef) ∷
     (codes "vector", key.Vector) ∷
     (codes "strided", key.Strided) ∷
@@ -64,34 +43,6 @@ keywords =
     (codes "func.return", key.Terminator) ∷
     (codes "affine.yield", key.Terminator) ∷
     (codes "scf.yield", key.Terminator) ∷
-    (codes "arith.addi", key.Overflowing) ∷
-    (codes "arith.subi", key.Overflowing) ∷
-    (codes "arith.muli", key.Overflowing) ∷
-    (codes "arith.shli", key.Overflowing) ∷
-    (codes "arith.divsi", key.Binary) ∷
-    (codes "arith.divui", key.Binary) ∷
-    (codes "arith.remsi", key.Binary) ∷
-    (codes "arith.remui", key.Binary) ∷
-    (codes "arith.floordivsi", key.Binary) ∷
-    (codes "arith.ceildivsi", key.Binary) ∷
-    (codes "arith.ceildivui", key.Binary) ∷
-    (codes "arith.andi", key.Binary) ∷
-    (codes "arith.ori", key.Binary) ∷
-    (codes "arith.xori", key.Binary) ∷
-    (codes "arith.shrsi", key.Binary) ∷
-    (codes "arith.shrui", key.Binary) ∷
-    (codes "arith.minsi", key.Binary) ∷
-    (codes "arith.minui", key.Binary) ∷
-    (codes "arith.maxsi", key.Binary) ∷
-    (codes "arith.maxui", key.Binary) ∷
-    (codes "arith.extsi", key.Cast) ∷
-    (codes "arith.extui", key.Cast) ∷
-    (codes "arith.trunci", key.Cast) ∷
-    (codes "arith.index_cast", key.Cast) ∷
-    (codes "arith.index_castui", key.Cast) ∷
-    (codes "affine.apply", key.MapOp) ∷
-    (codes "affine.min", key.MapOp) ∷
-    (codes "affine.max", key.MapOp) ∷
     (codes "true", key.Bool) ∷
     (codes "false", key.Bool) ∷
     (codes "private", key.Visibility) ∷
@@ -140,10 +91,15 @@ is_integer_type (first ∷ digits) = (first == 105) && (not (length digits == 0)
 abbrev pub is_scalar : List ℕ → Bool
 is_scalar word = bytes_eq word (codes "index") || is_integer_type word
 
+-- the class of a word that is the name of the operation of this number, or of none; a form by hand has other words
+abbrev pub class_of_number : Option ℕ → Class
+class_of_number None = class.OtherWord
+class_of_number (Some number) = if is_by_hand (form_of number) then class.OtherWord else class.Word (key.Operation number)
+
 -- the class of a word that is this keyword, or none
 abbrev pub class_of_keyword : Option Keyword → List ℕ → Class
 class_of_keyword (Some keyword) word = class.Word keyword
-class_of_keyword None word = if is_scalar word then class.Scalar else class.OtherWord
+class_of_keyword None word = if is_scalar word then class.Scalar else class_of_number (number_of word)
 
 -- a letter or `_`, and then letters, digits, `_`, `$` and `.`
 abbrev pub spells_word : List ℕ → Bool

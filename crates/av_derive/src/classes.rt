@@ -5,9 +5,12 @@ ghost use Rattle.std.specs.List.{list_all};
 ghost use Rattle.std.specs.Char.{is_ascii_digit as is_digit};
 ghost use Rattle.av_lex.specs.declared.class.Class.TheVariants.{Word as WordByte, WordStart};
 ghost use Rattle.av_lex.specs.Bytes.{in_class};
-ghost use Rattle.av_derive.specs.ClassOf.{class_of as the_class_of, spelling_of as the_spelling_of, classes_of as the_classes_of, class_of_keyword, keyword_of as the_keyword_of, is_scalar as is_scalar_word, class_of_hash as the_class_of_hash, class_of_quoted as the_class_of_quoted, spells_word, keywords, found_in};
+ghost use Rattle.av_dialects.specs.Rows.{number_of};
+ghost use Rattle.av_tree.specs.Forms.{is_by_hand as has_form_by_hand};
+ghost use Rattle.av_derive.specs.ClassOf.{class_of as the_class_of, spelling_of as the_spelling_of, classes_of as the_classes_of, class_of_keyword, class_of_number, keyword_of as the_keyword_of, is_scalar as is_scalar_word, class_of_hash as the_class_of_hash, class_of_quoted as the_class_of_quoted, spells_word, keywords, found_in};
 ghost use Rattle.av_derive.specs.WordLengths.{of_lengths};
 
+use av_dialects::{Item, Part, form_of, row_of};
 use av_lex::{Kind, Token};
 use av_tree::{Class, Keyword};
 use std::alloc::{AllocError, Global};
@@ -54,7 +57,7 @@ fn class_of_word(word: &[u8]) -> Class
             if is_scalar(word) {
                 Class::Scalar
             } else {
-                Class::OtherWord
+                class_of_other(word)
             }
         }
     }
@@ -71,11 +74,7 @@ fn keyword_of(word: &[u8]) -> Option<Keyword>
         5 => keyword_of_five(word),
         6 => keyword_of_six(word),
         7..=9 => keyword_to_nine(word),
-        10 => keyword_of_ten(word),
-        11 => keyword_of_eleven(word),
-        12..=13 => keyword_to_thirteen(word),
-        14..=15 => keyword_to_fifteen(word),
-        16..=18 => keyword_to_eighteen(word),
+        10..=13 => keyword_to_thirteen(word),
         _ => None,
     }
 }
@@ -206,10 +205,6 @@ fn keyword_to_nine(word: &[u8]) -> Option<Keyword>
 {
     if word == b"func.func".as_slice() {
         Some(Keyword::FuncFunc)
-    } else if word == b"affine.if".as_slice() {
-        Some(Keyword::AffineIf)
-    } else if word == b"scf.for".as_slice() {
-        Some(Keyword::ScfFor)
     } else if word == b"strided".as_slice() {
         Some(Keyword::Strided)
     } else if word == b"overflow".as_slice() {
@@ -218,8 +213,6 @@ fn keyword_to_nine(word: &[u8]) -> Option<Keyword>
         Some(Keyword::IterArgs)
     } else if word == b"scf.yield".as_slice() {
         Some(Keyword::Terminator)
-    } else if word == b"arith.ori".as_slice() {
-        Some(Keyword::Binary)
     } else if word == b"private".as_slice() {
         Some(Keyword::Visibility)
     } else if word == b"floordiv".as_slice() || word == b"ceildiv".as_slice() {
@@ -230,153 +223,46 @@ fn keyword_to_nine(word: &[u8]) -> Option<Keyword>
 }
 
 #[tactic(auto, unfolding(crate::specs::ClassOf::keywords))]
-fn keyword_of_ten(word: &[u8]) -> Option<Keyword>
-    ensures { result ≡ found_in (of_lengths 10 10 keywords) word.now }
+fn keyword_to_thirteen(word: &[u8]) -> Option<Keyword>
+    ensures { result ≡ found_in (of_lengths 10 13 keywords) word.now }
 {
-    if word == b"arith.cmpi".as_slice() {
-        Some(Keyword::ArithCmpi)
-    } else if word == b"affine.for".as_slice() {
-        Some(Keyword::AffineFor)
-    } else if word == b"memref.dim".as_slice() {
-        Some(Keyword::MemRefDim)
-    } else if word == b"affine_map".as_slice() {
+    if word == b"affine_map".as_slice() {
         Some(Keyword::AffineMap)
     } else if word == b"affine_set".as_slice() {
         Some(Keyword::AffineSet)
-    } else if word == b"attributes".as_slice() {
-        Some(Keyword::Attributes)
-    } else {
-        other_keyword_of_ten(word)
-    }
-}
-
-#[tactic(auto, unfolding(crate::specs::ClassOf::keywords))]
-fn other_keyword_of_ten(word: &[u8]) -> Option<Keyword>
-    ensures { result ≡ found_in (drop 6 (of_lengths 10 10 keywords)) word.now }
-{
-    if word == b"arith.addi".as_slice()
-        || word == b"arith.subi".as_slice()
-        || word == b"arith.muli".as_slice()
-        || word == b"arith.shli".as_slice()
-    {
-        Some(Keyword::Overflowing)
-    } else if word == b"arith.andi".as_slice() || word == b"arith.xori".as_slice() {
-        Some(Keyword::Binary)
-    } else if word == b"affine.min".as_slice() || word == b"affine.max".as_slice() {
-        Some(Keyword::MapOp)
-    } else {
-        None
-    }
-}
-
-#[tactic(auto, unfolding(crate::specs::ClassOf::keywords))]
-fn keyword_of_eleven(word: &[u8]) -> Option<Keyword>
-    ensures { result ≡ found_in (of_lengths 11 11 keywords) word.now }
-{
-    if word == b"affine.load".as_slice() {
-        Some(Keyword::AffineLoad)
-    } else if word == b"memref.load".as_slice() {
-        Some(Keyword::MemRefLoad)
-    } else if word == b"vector.load".as_slice() {
-        Some(Keyword::VectorLoad)
-    } else if word == b"vector.step".as_slice() {
-        Some(Keyword::VectorStep)
-    } else if word == b"func.return".as_slice() {
-        Some(Keyword::Terminator)
-    } else {
-        other_keyword_of_eleven(word)
-    }
-}
-
-#[tactic(auto, unfolding(crate::specs::ClassOf::keywords))]
-fn other_keyword_of_eleven(word: &[u8]) -> Option<Keyword>
-    ensures { result ≡ found_in (drop 5 (of_lengths 11 11 keywords)) word.now }
-{
-    if word == b"arith.divsi".as_slice()
-        || word == b"arith.divui".as_slice()
-        || word == b"arith.remsi".as_slice()
-        || word == b"arith.remui".as_slice()
-        || word == b"arith.shrsi".as_slice()
-        || word == b"arith.shrui".as_slice()
-        || word == b"arith.minsi".as_slice()
-        || word == b"arith.minui".as_slice()
-        || word == b"arith.maxsi".as_slice()
-        || word == b"arith.maxui".as_slice()
-    {
-        Some(Keyword::Binary)
-    } else if word == b"arith.extsi".as_slice() || word == b"arith.extui".as_slice() {
-        Some(Keyword::Cast)
-    } else {
-        None
-    }
-}
-
-#[tactic(auto, unfolding(crate::specs::ClassOf::keywords))]
-fn keyword_to_thirteen(word: &[u8]) -> Option<Keyword>
-    ensures { result ≡ found_in (of_lengths 12 13 keywords) word.now }
-{
-    if word == b"arith.select".as_slice() {
-        Some(Keyword::ArithSelect)
-    } else if word == b"affine.store".as_slice() {
-        Some(Keyword::AffineStore)
-    } else if word == b"memref.store".as_slice() {
-        Some(Keyword::MemRefStore)
-    } else if word == b"vector.store".as_slice() {
-        Some(Keyword::VectorStore)
-    } else if word == b"vector.insert".as_slice() {
-        Some(Keyword::VectorInsert)
-    } else if word == b"vector.vscale".as_slice() {
-        Some(Keyword::VectorVscale)
     } else if word == b"function_type".as_slice() {
         Some(Keyword::FunctionType)
-    } else if word == b"affine.yield".as_slice() {
+    } else if word == b"attributes".as_slice() {
+        Some(Keyword::Attributes)
+    } else if word == b"func.return".as_slice() || word == b"affine.yield".as_slice() {
         Some(Keyword::Terminator)
-    } else if word == b"arith.trunci".as_slice() {
-        Some(Keyword::Cast)
-    } else if word == b"affine.apply".as_slice() {
-        Some(Keyword::MapOp)
     } else {
         None
     }
 }
 
-#[tactic(auto, unfolding(crate::specs::ClassOf::keywords))]
-fn keyword_to_fifteen(word: &[u8]) -> Option<Keyword>
-    ensures { result ≡ found_in (of_lengths 14 15 keywords) word.now }
+// The class of a word that is no keyword and no type: the name of an operation, or any other word.
+fn class_of_other(word: &[u8]) -> Class
+    ensures { result ≡ class_of_number (number_of word.now) }
 {
-    if word == b"arith.constant".as_slice() {
-        Some(Keyword::ArithConstant)
-    } else if word == b"vector.extract".as_slice() {
-        Some(Keyword::VectorExtract)
-    } else if word == b"vector.shuffle".as_slice() {
-        Some(Keyword::VectorShuffle)
-    } else if word == b"arith.ceildivsi".as_slice() || word == b"arith.ceildivui".as_slice() {
-        Some(Keyword::Binary)
-    } else {
-        None
+    match row_of(word) {
+        Some(number) => {
+            if is_by_hand(form_of(number)) {
+                Class::OtherWord
+            } else {
+                Class::Word(Keyword::Operation(number))
+            }
+        }
+        None => Class::OtherWord,
     }
 }
 
-#[tactic(auto, unfolding(crate::specs::ClassOf::keywords))]
-fn keyword_to_eighteen(word: &[u8]) -> Option<Keyword>
-    ensures { result ≡ found_in (of_lengths 16 18 keywords) word.now }
+fn is_by_hand(parts: &[Part]) -> bool
+    ensures { result ≡ has_form_by_hand parts.now }
 {
-    if word == b"vector.maskedload".as_slice() {
-        Some(Keyword::VectorMaskedLoad)
-    } else if word == b"vector.maskedstore".as_slice() {
-        Some(Keyword::VectorMaskedStore)
-    } else if word == b"vector.broadcast".as_slice() {
-        Some(Keyword::VectorBroadcast)
-    } else if word == b"vector.create_mask".as_slice() {
-        Some(Keyword::VectorCreateMask)
-    } else if word == b"vector.reduction".as_slice() {
-        Some(Keyword::VectorReduction)
-    } else if word == b"arith.floordivsi".as_slice() {
-        Some(Keyword::Binary)
-    } else if word == b"arith.index_cast".as_slice() || word == b"arith.index_castui".as_slice() {
-        Some(Keyword::Cast)
-    } else {
-        None
+    match parts {
+        [part, ..] => matches!(part.1, Item::ByHand),
+        [] => false,
     }
 }
 

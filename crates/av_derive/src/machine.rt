@@ -3,14 +3,15 @@
 ghost use Rattle.std.specs.Prelude.{◌≡◌, ◌≢◌, ◌+◌, ◌<◌, ◌≤◌, ◌++◌, ◌∷◌, ◌⊎◌, ◌||◌, [], false, true, drop, length, reverse, take, IfErr, IfOk, OnOk};
 ghost use Rattle.av_tree.specs.Classes.{bracket_of as bracket_of_class};
 ghost use Rattle.av_tree.specs.Needs.{need_of};
+ghost use Rattle.av_tree.specs.Sets.{is_same_class};
 ghost use Rattle.av_tree.specs.Signs.{counts_sign as counts_sign_of};
 ghost use Rattle.av_derive.specs.Derivation.{Derived, NoneBegins, NoneDerives, IsOnly, IsDeepAt, IsPlainAt, opened, signs_with};
 ghost use Rattle.av_derive.specs.State.{Expanded, Fits, Shifted, Stands, StandsFresh, ahead as ahead_of};
 
 use av_tree::table::{
-    FileName, Name, Rule, Symbol, begins_expression, choose, counts_sign, fits, need, symbols,
+    FileName, Name, Rule, Symbol, begins_expression, choose, counts_sign, fits, need, push_symbols,
 };
-use av_tree::{Bracket, Class, bracket_of, class_number};
+use av_tree::{Bracket, Class, bracket_of, class_number, operation_in};
 use std::alloc::{AllocError, AllocFailed, Global};
 
 /// The greatest numbers of brackets that are open at once, and of signs and words of calculation in
@@ -160,7 +161,7 @@ impl Machine {
             match symbol {
                 Symbol::Rows(name) => {
                     let rule = choose(name, class);
-                    push_row(&mut self.stack, symbols(rule))?;
+                    push_symbols(&mut self.stack, rule)?;
                     self.enter(rule, at)?;
                 }
                 Symbol::Sign(_) | Symbol::Word(_) | Symbol::Token(_) => return Ok(Some(symbol)),
@@ -240,7 +241,14 @@ fn is_same(left: Class, right: Class) -> bool
     ensures same { result ≡ true → left ≡ right }
     ensures other { result ≡ false → left ≢ right }
 {
-    class_number(left) == class_number(right)
+    have_same_numbers(left, right)
+}
+
+#[tactic(auto, unfolding(av_tree::specs::Sets::is_same_class))]
+fn have_same_numbers(left: Class, right: Class) -> bool
+    ensures { result ≡ is_same_class left right }
+{
+    class_number(left) == class_number(right) && operation_in(left) == operation_in(right)
 }
 
 // The class of the token of number `at`, or of the end.
@@ -251,15 +259,4 @@ fn ahead(classes: &[Class], at: u32) -> Class
         Some(class) => *class,
         None => Class::End,
     }
-}
-
-// Puts the symbols of a row on a stack, the first one last.
-fn push_row(stack: &mut Vec<Symbol>, row: &[Symbol]) -> Result<(), AllocError>
-    ensures { OnOk result (stack.new.items ≡ stack.old.items ++ reverse row.now) }
-{
-    if let [first, rest @ ..] = row {
-        push_row(stack, rest)?;
-        stack.push(*first)?;
-    }
-    Ok(())
 }

@@ -8,6 +8,7 @@ use Rattle.av_dialects.specs.declared.item.Key.TheVariants as key
 use Rattle.av_dialects.specs.declared.item.Lead.{Lead}
 use Rattle.av_dialects.specs.declared.item.Mode.{Mode}
 use Rattle.av_dialects.specs.declared.item.Results.{Results}
+use Rattle.av_dialects.specs.declared.item.Results.TheVariants as result
 use Rattle.av_dialects.specs.declared.rows.TheConstants.{KINDS, OVERFLOW_FLAGS, PREDICATES, ROWS}
 
 -- a part of a form, and what stands before it
@@ -64,6 +65,13 @@ HasForm number parts = slice_get forms number ≡ Some parts
 -- the parts of an operation's form; none where no operation has the number
 abbrev pub form_of : ℕ → List Part
 form_of number = get_or forms number []
+
+-- the name and the results of an operation; no bytes and none where no operation has the number
+abbrev pub name_at : ℕ → List ℕ
+name_at number = get_or names number []
+
+abbrev pub results_at : ℕ → Results
+results_at number = get_or results number result.Zero
 
 -- the first place at which the name stands, or none
 abbrev pub place_in : List (List ℕ) → List ℕ → Option ℕ

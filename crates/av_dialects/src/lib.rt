@@ -14,4 +14,6 @@ pub use laws::{
     each_form_writes_its_types, names_differ, parts_end_plainly, some_forms, words_differ,
 };
 pub use rows::{KINDS, OVERFLOW_FLAGS, PREDICATES, ROWS, Row};
-pub use table::{form_of, mode_of, name_of, parts_of, property, results_of, row_of};
+pub use table::{
+    form_of, mode_of, name_at, name_of, parts_of, property, results_at, results_of, row_of,
+};

@@ -1,6 +1,6 @@
 ghost use Rattle.std.specs.Prelude.{◌≡◌, ◌<◌, ◌≤◌, ◌≢◌, ◌↔◌, [], get_or, length, map, slice_get, All, IfSome, IsTrue, MatchOption, Some};
 ghost use Rattle.std.specs.List.{HoldsAt};
-ghost use Rattle.av_dialects.specs.Rows.{form_of as the_form_of, number_of, HasForm, HasMode, HasName, HasResults, IsNoneOf, names, property_of, row_count};
+ghost use Rattle.av_dialects.specs.Rows.{form_of as the_form_of, name_at as the_name_at, results_at as the_results_at, number_of, HasForm, HasMode, HasName, HasResults, IsNoneOf, names, property_of, row_count};
 
 use super::{Key, Mode, Part, ROWS, Results, Row};
 
@@ -78,6 +78,38 @@ pub fn form_of(number: u8) -> &'static [Part]
     ensures { result.now ≡ the_form_of number }
 {
     form_in(ROWS, number as usize)
+}
+
+/// The name of an operation, or none where no operation has the number.
+pub fn name_at(number: u8) -> &'static str
+    ensures { result.now ≡ the_name_at number }
+{
+    name_in(ROWS, number as usize)
+}
+
+fn name_in(rows: &[Row], place: usize) -> &'static str
+    ensures { result.now ≡ get_or (map (λ row. row.0.now) rows.now) place [] }
+{
+    match rows.get(place) {
+        Some(row) => row.0,
+        None => "",
+    }
+}
+
+/// The results of an operation, or none where no operation has the number.
+pub fn results_at(number: u8) -> Results
+    ensures { result ≡ the_results_at number }
+{
+    results_in(ROWS, number as usize)
+}
+
+fn results_in(rows: &[Row], place: usize) -> Results
+    ensures { result ≡ get_or (map (λ row. row.2) rows.now) place Results.Zero }
+{
+    match rows.get(place) {
+        Some(row) => row.2,
+        None => Results::Zero,
+    }
 }
 
 fn form_in(rows: &[Row], place: usize) -> &'static [Part]

@@ -1,33 +1,25 @@
 -- What is in an entry that is made.
 use Rattle.std.proofs.Common.{◌≡◌, ℕ, List, ◌∷◌, ap, sym, ◌∙◌}
 use Rattle.std.specs.Prelude.{ℤ, pos}
-use Rattle.av_tree.specs.declared.attribute.Attr.{Attr, out-Attr, out-roll-Attr}
+use Rattle.av_tree.specs.declared.attribute.Attr.{out-Attr, out-roll-Attr}
 use Rattle.av_tree.specs.declared.attribute.Attr.TheVariants as attr
 use Rattle.av_tree.specs.declared.attribute.Attr.TheOpen as open_attr
-use Rattle.av_tree.specs.declared.attribute.Named.{Named, Named-F, out-Named, out-roll-Named}
+use Rattle.av_tree.specs.declared.attribute.Named.{Named}
 use Rattle.av_tree.specs.declared.written.MapText.{MapText}
 use Rattle.av_tree.specs.declared.written.SetText.{SetText}
 use Rattle.av_tree.specs.declared.written.TypeText.{TypeText}
-use Rattle.av_tree.specs.declared.written.TypeText.TheVariants as types
 use Rattle.std.specs.Prelude.{codes}
 use Rattle.av_values.specs.Loops.{index_type, step}
-use Rattle.av_values.specs.Nodes.{entry}
+use Rattle.av_values.proofs.Entries.{value-of}
 use Rattle.av_form_laws.specs.Attributes.{Applied, alias, applied_attr, applied_in, first_applied, written_map, written_set}
 use Rattle.av_form_laws.specs.Items.{applied_entry}
-use Rattle.av_form_laws.specs.Loops.{first_step, sizes_entry, step_entry, step_in}
-use Rattle.av_form_laws.specs.Properties.{first_numbers, numbers_in}
-
-pub value-of : (name : List ℕ) (x : Attr) → (out-Named (entry name x)).value ≡ x
-value-of name x = ap (λ (e : Named-F Attr Named). e.value) (out-roll-Named (record { name = name; value = x }))
+use Rattle.av_form_laws.specs.Loops.{first_step, step_entry, step_in}
 
 pub out-number : (z : ℤ) (t : TypeText) → out-Attr (attr.Number z t) ≡ open_attr.Number z t
 out-number z t = ap out-Attr (sym (attr.rolls-Number z t)) ∙ out-roll-Attr (open_attr.Number z t)
 
 pub out-hash : (name : List ℕ) (words : List (List ℕ)) → out-Attr (attr.Hash name words) ≡ open_attr.Hash name words
 out-hash name words = ap out-Attr (sym (attr.rolls-Hash name words)) ∙ out-roll-Attr (open_attr.Hash name words)
-
-pub out-array : (t : TypeText) (numbers : List ℤ) → out-Attr (attr.Array t numbers) ≡ open_attr.Array t numbers
-out-array t numbers = ap out-Attr (sym (attr.rolls-Array t numbers)) ∙ out-roll-Attr (open_attr.Array t numbers)
 
 pub out-map : (m : MapText) → out-Attr (attr.Map m) ≡ open_attr.Map m
 out-map m = ap out-Attr (sym (attr.rolls-Map m)) ∙ out-roll-Attr (open_attr.Map m)
@@ -45,11 +37,6 @@ applied-is (alias name) = ap applied_in (out-alias name)
 
 pub first-applied : (name : List ℕ) (a : Applied) (es : List Named) → first_applied (applied_entry name a ∷ es) ≡ a
 first-applied name a es = ap (λ x. applied_in (out-Attr x)) (value-of name (applied_attr a)) ∙ applied-is a
-
-pub sizes-first : (numbers : List ℤ) (es : List Named) → first_numbers (sizes_entry numbers ∷ es) ≡ numbers
-sizes-first numbers es =
-    ap (λ x. numbers_in (out-Attr x)) (value-of (codes "operandSegmentSizes") (attr.Array (types.Scalar (codes "i32")) numbers))
-    ∙ ap numbers_in (out-array (types.Scalar (codes "i32")) numbers)
 
 pub step-first : (s : ℕ) (es : List Named) → first_step (step_entry s ∷ es) ≡ s
 step-first s es = ap (λ x. step_in (out-Attr x)) (value-of (codes "step") (step (pos s))) ∙ ap step_in (out-number (pos s) index_type)

@@ -11,11 +11,12 @@ use Rattle.av_dialects.specs.declared.item.Key.{Key}
 use Rattle.av_dialects.specs.declared.item.Key.TheVariants as key
 use Rattle.av_dialects.specs.Rows.{predicates}
 use Rattle.av_form_laws.specs.Examples.{CastExamples, LineExamples, MarkExamples, OperandExamples, TypedExamples, WordsFit}
-use Rattle.av_form_laws.specs.Lines.{Line}
 use Rattle.av_form_laws.proofs.WholeLoop.{loop-examples}
 use Rattle.av_form_laws.proofs.LoopExamples.{access-examples, bound-examples, carried-examples, else-examples, region-examples, result-examples, step-examples}
-use Rattle.av_form_laws.proofs.Entries.{out-hash, out-number, value-of}
+use Rattle.av_form_laws.proofs.Entries.{out-hash, out-number}
+use Rattle.av_values.proofs.Entries.{value-of}
 use Rattle.av_form_laws.specs.Properties.{first_word, is_word_of, long, place_in, word_at, word_entry, word_in}
+use Rattle.av_values.specs.Gifts.{Line}
 
 cast-examples : CastExamples
 cast-examples t u i j = (

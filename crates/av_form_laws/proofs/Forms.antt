@@ -2,9 +2,9 @@
 use Rattle.std.proofs.Common.{ap, ◌∙◌}
 use Rattle.av_tree.specs.declared.node.Node.{out-Node, roll-Node, roll-out-Node}
 use Rattle.av_form_laws.specs.FormLaws.{FormLaw}
-use Rattle.av_form_laws.specs.Lines.{unwritten}
 use Rattle.av_form_laws.specs.Rows.{blank, head_of}
 use Rattle.av_form_laws.proofs.Given.{made-whole, makes}
+use Rattle.av_values.specs.Gifts.{unwritten}
 
 pub form-law : FormLaw
 form-law r ps node h = (

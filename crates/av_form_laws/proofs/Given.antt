@@ -6,10 +6,10 @@ use Rattle.av_dialects.specs.Rows.{Part}
 use Rattle.av_dialects.specs.Types.{needs}
 use Rattle.av_form_laws.specs.Grammar.{Makes, nothing, part, spell}
 use Rattle.av_form_laws.specs.Items.{give, opened, rest, taken}
-use Rattle.av_form_laws.specs.Lines.{Line, unwritten}
 use Rattle.av_form_laws.specs.Rows.{FitsRow, Whole, all_opened, blank, given, head_of, made, values_of, words_of}
 use Rattle.av_form_laws.proofs.Lenses.{give-taken, opened-taken}
 use Rattle.av_form_laws.proofs.Printed.{gives}
+use Rattle.av_values.specs.Gifts.{Line, unwritten}
 
 pub makes : (ps : List Part) (empty n : Line) → Whole ps empty n → Makes ps (words_of ps n) (values_of ps n)
 makes [] empty n h = nothing

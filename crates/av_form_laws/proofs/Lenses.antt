@@ -13,11 +13,12 @@ use Rattle.av_dialects.specs.declared.item.Slots.TheVariants as slots
 use Rattle.av_tree.specs.declared.attribute.Named.{Named}
 use Rattle.std.specs.Prelude.{codes}
 use Rattle.av_form_laws.specs.Attributes.{constant_type, first_applied, first_constant}
-use Rattle.av_form_laws.specs.Items.{AreCarried, AreNumbered, access_taken, applied_entry, bound_size, Fits, HasFirst, StandsAt, chosen, give, opened, rest, taken, with_last}
-use Rattle.av_form_laws.specs.Loops.{Carrying, args_in, args_of, first_name, inits_of, paired, types_of, with_args_in}
+use Rattle.av_form_laws.specs.Items.{AreCarried, AreNumbered, access_taken, applied_entry, bound_size, Fits, HasFirst, StandsAt, chosen, give, opened, rest, taken}
+use Rattle.av_form_laws.specs.Loops.{Carrying, args_of, first_name, inits_of, paired, types_of}
 use Rattle.av_form_laws.specs.Subscripts.{numbered_values}
 use Rattle.av_form_laws.proofs.Regions.{args-back, last-twice, line-same}
-use Rattle.av_form_laws.specs.Lines.{Line, all_written, at_slot, back, cleared, filled, first_text, front, known, put_at_slot, type_at, unwritten}
+use Rattle.av_form_laws.specs.Lines.{at_slot, cleared, first_text, known, type_at}
+use Rattle.av_values.specs.Gifts.{Line, all_written, args_in, back, filled, front, put_at_slot, unwritten, with_args_in, with_last}
 
 -- ---- operands
 first-rest : (xs : List (List ℕ)) → HasFirst xs → first_text xs ∷ drop 1 xs ≡ xs

@@ -8,5 +8,4 @@ pub mod Printed
 pub mod Reading
 pub mod Regions
 pub mod Subscripts
-pub mod Tables
 pub mod WholeLoop

@@ -20,15 +20,16 @@ use Rattle.av_tree.specs.declared.written.ExprText.TheBlock.{shape-the_row-ExprT
 use denote.Hole.Carrier.{hidden}
 use Rattle.av_form_laws.specs.Examples.{AccessExamples, BoundExamples, CarriedExamples, ElseExamples, RegionExamples, ResultExamples, StepExamples, a, access_line, around, b, body, branched, c, carrying, carrying_line, end, end_put_in, less_one, looped, typed_arg}
 use Rattle.av_form_laws.specs.Attributes.{Applied, first_applied, written_map}
-use Rattle.av_form_laws.specs.Items.{AreWanted, HasRegion, applied_entry, is_wanted, with_last}
-use Rattle.av_form_laws.specs.Lines.{Line, all_written, first_text}
-use Rattle.av_form_laws.specs.Loops.{args_in, args_of, end_of, first_name, inits_of, nodes_in, paired, step_entry, types_of, with_args_in, written_in}
-use Rattle.av_form_laws.specs.Properties.{first_numbers}
+use Rattle.av_form_laws.specs.Items.{AreWanted, HasRegion, applied_entry, is_wanted}
+use Rattle.av_form_laws.specs.Lines.{first_text}
+use Rattle.av_form_laws.specs.Loops.{args_of, first_name, inits_of, nodes_in, paired, step_entry, types_of, written_in}
 use Rattle.av_form_laws.specs.Subscripts.{map_in, numbered_map, numbered_values, subscripts_of, with_leaves}
 use Rattle.av_form_laws.specs.Grammar.{else_words, in_square, iter_words, step_words}
 use Rattle.av_form_laws.specs.Rows.{FitsRow, words_of}
 use Rattle.av_form_laws.specs.Words.{between_commas, region, single, subscript, value, variable}
-use Rattle.av_form_laws.proofs.Entries.{first-applied, out-array, out-map, step-first}
+use Rattle.av_form_laws.proofs.Entries.{first-applied, out-map, step-first}
+use Rattle.av_values.proofs.Entries.{out-array}
+use Rattle.av_values.specs.Gifts.{Line, all_written, args_in, end_of, first_numbers, with_args_in, with_last}
 
 -- ---- regions
 abbrev pub yield : List ℕ

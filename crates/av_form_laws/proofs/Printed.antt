@@ -17,12 +17,13 @@ use Rattle.av_dialects.specs.declared.item.Wanted.TheVariants as wanted
 use Rattle.av_form_laws.specs.Items.{IsTypeOf, AreTypes, AreWanted, bound_taken, Fits, HasAtMostOne, HasFirst, IsCondition, IsWanted, condition_type, chosen, is_wanted, taken}
 use Rattle.av_form_laws.specs.Attributes.{Applied, Constant, alias, constant_type, dimensions_of, first_applied, first_constant, is_map, of_elements, of_number, truth, written_map, written_set}
 use Rattle.av_form_laws.specs.Grammar.{Bounds, HasType, a_region, access, alone, an_else, applied_words, bound_words, by_choice, by_map, by_number, by_value, carried, carried_type, carrying_words, choice_of, counter, else_words, iter_words, lower_bound, no_carried, no_else, no_results, no_step, one_result, or_else, result_words, results, step, step_words, upper_bound, MapOperands, constant_words, dense_constant, dimensions, false_alone, in_round, map_applied, number_constant, operand_words, set_applied, true_alone, with_symbols, Always, Any, Gives, IsFlag, Several, a_type, a_word, angled, chosen_alone, chosen_by, choice_words, element, mark_words, marks, no_marks, no_operand, no_overflow, no_typed, none, numbers, one, one_more, operand, operand_more, operands, overflow, overflow_words, some, spell, typed, typed_words}
-use Rattle.av_form_laws.specs.Lines.{Line, first_text, front, known, type_at}
-use Rattle.av_form_laws.specs.Properties.{first_flags, first_numbers, first_word, is_flag}
+use Rattle.av_form_laws.specs.Lines.{first_text, known, type_at}
+use Rattle.av_form_laws.specs.Properties.{first_flags, first_word, is_flag}
 use Rattle.av_form_laws.specs.Words.{Word, behind_commas, between_commas, number, of_type, plain, single, subscript, value}
-use Rattle.av_form_laws.specs.Loops.{Carrying, args_in, end_of, first_name, first_step, nodes_in, paired, types_of, written_in}
+use Rattle.av_form_laws.specs.Loops.{Carrying, first_name, first_step, nodes_in, paired, types_of, written_in}
 use Rattle.av_form_laws.specs.Subscripts.{IsSubscript, leaf_in, map_in, subscripts_of, with_leaves}
 use Rattle.av_form_laws.proofs.Subscripts.{subscript-is}
+use Rattle.av_values.specs.Gifts.{Line, args_in, end_of, first_numbers, front}
 
 -- ---- lists
 abbrev Each : {A : Type 0} → (A → Type 0) → List A → Type 0

@@ -1,137 +1,66 @@
--- What reading makes of the values of a form, and what the format's rows are defined to make of them.
-use Rattle.std.proofs.Common.{◌≡◌, ℕ, List, [], ◌∷◌, ◌++◌, append_assoc, length, map, Option, None, Some, refl, reverse, ap, sym, ◌∙◌}
-use Rattle.std.proofs.lemmas.List.{append-nil, length-map, map-append, reverse-reverse}
-use Rattle.std.specs.Prelude.{ℤ, codes, pos}
-use Rattle.av_tree.specs.declared.attribute.Named.{Named}
-use Rattle.av_tree.specs.declared.node.Node.{Node, out-roll-Node, roll-Node}
-use Rattle.av_tree.specs.declared.node.Body.{Body, Body-F, out-roll-Body, roll-Body}
+-- What is made of the values of a form's parts is what the row of the operation makes of the values of its symbols, item by item.
+use Rattle.std.proofs.Common.{◌≡◌, ℕ, ◌||◌, Bool, true, false, List, [], ◌∷◌, ◌++◌, append_assoc, map, suc, Option, None, refl, reverse, ap, sym, ◌∙◌}
+use Rattle.std.specs.Prelude.{if◌then◌else◌, pos}
+use Rattle.std.proofs.lemmas.List.{append-nil, reverse-reverse}
+use Rattle.av_tree.specs.declared.attribute.Attr.TheVariants as attr
+use Rattle.av_tree.specs.declared.node.Node.{out-Node, roll-Node}
 use Rattle.av_tree.specs.declared.node.BodyArg.{BodyArg}
+use Rattle.av_tree.specs.declared.table.Symbol.{Symbol}
+use Rattle.av_tree.specs.declared.table.Symbol.TheVariants as symbol
 use Rattle.av_tree.specs.declared.written.TypeText.{TypeText}
-use Rattle.av_values.specs.Forms.{branch_of, counted_loop_of}
-use Rattle.av_values.specs.Loops.{carried_lists, counter, step, terminated, ended, with_carried, with_pair, with_pairs}
-use Rattle.av_values.specs.Nodes.{entry, plain, with_body, with_operands, with_property, with_results}
-use Rattle.av_values.specs.Operations.{load_of, loop_of, store_of, with_buffer, with_region, with_unwritten_result}
-use Rattle.av_values.specs.Accesses.{numbering}
+use Rattle.av_tree.specs.Forms.{form_symbols, item_symbols, lead_symbols}
 use Rattle.av_values.specs.declared.loops.CarriedLists.{CarriedLists}
-use Rattle.av_values.specs.declared.value.Carried.{Carried}
-use Rattle.av_values.specs.declared.value.Expression.{Expression}
-use Rattle.av_values.specs.declared.value.MapUse.{MapUse}
-use Rattle.av_dialects.specs.declared.item.Results.TheVariants as results_of
-use Rattle.av_dialects.specs.declared.item.Typing.TheVariants as typing
-use Rattle.av_dialects.specs.Rows.{forms, names, results}
-use Rattle.av_form_laws.specs.Items.{applied_entry, with_last}
-use Rattle.av_form_laws.specs.Lines.{Line, all_written, unwritten}
-use Rattle.av_form_laws.specs.Loops.{Carrying, args_in, args_of, inits_of, region_of, sizes_entry, types_of, with_args_in}
-use Rattle.av_form_laws.specs.Reading.{BoundReading, BranchReading, CountedReading, FormsOfRows, LoadReading, LoopReading, MapReading, ReadingLaw, StoreReading, branch_form, carried_of, counted_form, load_form, loop_form, pair_of, store_form, use_of}
-use Rattle.av_form_laws.specs.Properties.{first_numbers}
-use Rattle.av_form_laws.specs.Rows.{Head, blank, made}
-use Rattle.av_form_laws.specs.Subscripts.{numbered_map, numbered_values}
-use Rattle.av_form_laws.proofs.Entries.{sizes-first}
-use Rattle.av_form_laws.proofs.Regions.{last-types, line-same}
+use Rattle.av_values.specs.Gifts.{Line, all_written, given, region_of, unwritten, with_args_before, with_last}
+use Rattle.av_values.specs.Loops.{carried_lists, with_pair, with_pairs}
+use Rattle.av_values.specs.Made.{gift_of, made_of, split}
+use Rattle.av_values.specs.Nodes.{entry}
+use Rattle.av_values.specs.Sorts.{All, sorts_of}
+use Rattle.av_values.specs.Spellings.{predicate_of}
+use Rattle.av_dialects.specs.declared.item.Item.{Item}
+use Rattle.av_dialects.specs.declared.item.Item.TheVariants as item
+use Rattle.av_dialects.specs.declared.item.Key.{Key}
+use Rattle.av_dialects.specs.declared.item.Key.TheVariants as key
+use Rattle.av_dialects.specs.declared.item.Slots.{Slots}
+use Rattle.av_dialects.specs.declared.item.Wanted.{Wanted}
+use Rattle.av_dialects.specs.declared.item.Wanted.TheVariants as wanted
+use Rattle.av_dialects.specs.Rows.{Part, form_of, predicates, property_of, results_at}
+use Rattle.av_form_laws.specs.Grammar.{Always, Gives, Makes, Several, a_word, angled, one, one_more, operands, part}
+use Rattle.av_form_laws.specs.Items.{HasFirst, give, opened}
+use Rattle.av_form_laws.specs.Loops.{Carrying, args_of, inits_of, types_of}
+use Rattle.av_form_laws.specs.Properties.{flag_entries, is_word_of, long, place_in}
+use Rattle.av_form_laws.specs.Reading.{ReadingLaw, RowLaw, angled_values, carried_of, form_values, head_at, item_values, joined, lead_values, pair_of, type_values, word_values}
+use Rattle.av_form_laws.specs.Rows.{Head, all_opened, blank, given as given_all, made, values_of, words_of}
+use Rattle.av_form_laws.specs.Values.{Of, Values}
+use Rattle.av_form_laws.proofs.Forms.{form-law}
+use Rattle.av_form_laws.specs.Words.{Word, single, value}
 
-forms-of-rows : FormsOfRows
-unfolding names results forms
-forms-of-rows = (
-  (31, refl, refl, refl),
-  (42, refl, refl, refl),
-  (32, refl, refl, refl),
-  (34, refl, refl, refl),
-  (35, refl, refl, refl),
-  (36, refl, refl, refl),
-  (37, refl, refl, refl),
-  (38, refl, refl, refl),
-)
+-- ---- values of symbols
+split-joined : (xs ys : List Symbol) (us : All (sorts_of xs)) (vs : All (sorts_of ys)) → split xs ys (joined xs ys us vs) ≡ (us, vs)
+split-joined [] ys us vs = refl
+split-joined (symbol.Sign s ∷ xs) ys us vs = split-joined xs ys us vs
+split-joined (symbol.Word w ∷ xs) ys us vs = split-joined xs ys us vs
+split-joined (symbol.Token t ∷ xs) ys (u, us) vs = ap (λ both. ((u, both.0), both.1)) (split-joined xs ys us vs)
+split-joined (symbol.Rows x ∷ xs) ys (u, us) vs = ap (λ both. ((u, both.0), both.1)) (split-joined xs ys us vs)
 
-bound-reading : BoundReading
-bound-reading = ((λ z. refl), (λ v. refl))
+-- ---- words of predicates
+first-of-ten : (a b c d e f g h i j : Bool) → (a || (b || (c || (d || (e || (f || (g || (h || (i || (j || false)))))))))) ≡ true
+    → (if a then 0 else (if b then 1 else (if c then 2 else (if d then 3 else (if e then 4 else (if f then 5 else (if g then 6 else (if h then 7 else (if i then 8 else 9)))))))))
+    ≡ (if a then 0 else suc (if b then 0 else suc (if c then 0 else suc (if d then 0 else suc (if e then 0 else suc (if f then 0 else suc (if g then 0 else suc (if h then 0 else suc (if i then 0 else suc (if j then 0 else suc 0))))))))))
+first-of-ten true b c d e f g h i j k = refl
+first-of-ten false true c d e f g h i j k = refl
+first-of-ten false false true d e f g h i j k = refl
+first-of-ten false false false true e f g h i j k = refl
+first-of-ten false false false false true f g h i j k = refl
+first-of-ten false false false false false true g h i j k = refl
+first-of-ten false false false false false false true h i j k = refl
+first-of-ten false false false false false false false true i j k = refl
+first-of-ten false false false false false false false false true j k = refl
+first-of-ten false false false false false false false false false true k = refl
+first-of-ten false false false false false false false false false false k = absurd (cc)
 
-map-reading : MapReading
-unfolding plain with_property with_operands with_unwritten_result
-map-reading place word map = simp (out-roll-Node, append-nil) refl
-
--- nothing but a name and a place
-abbrev head : List ℕ → ℕ → Head
-head name place = record { name = name; place = place; results = [] }
-
-abbrev named : List ℕ → ℕ → Line
-named name place = blank (head name place) results_of.Zero []
-
--- ---- loads and stores
-abbrev parameter_types : List Expression → List (Option TypeText)
-parameter_types subscripts = unwritten (numbering subscripts).dims ++ unwritten (numbering subscripts).syms
-
-abbrev load-line : ℕ → List ℕ → List Expression → List Named → TypeText → Line
-load-line place buffer subscripts es t = record (named (codes "affine.load") place) {
-  operands = buffer ∷ numbered_values subscripts;
-  properties = applied_entry (codes "map") (numbered_map subscripts) ∷ [];
-  attrs = es;
-  in_types = Some t ∷ parameter_types subscripts;
-  out_types = None ∷ [];
-}
-
-load-rows : (place : ℕ) (buffer : List ℕ) (subscripts : List Expression) (es : List Named) (t : TypeText)
-    → load_of buffer subscripts es t place ≡ roll-Node (load-line place buffer (reverse subscripts) (reverse es) t)
-unfolding plain with_property with_operands with_unwritten_result with_buffer
-load-rows place buffer subscripts es t = simp out-roll-Node refl
-
-abbrev store-line : ℕ → List ℕ → List ℕ → List Expression → List Named → TypeText → Line
-store-line place value buffer subscripts es t = record (named (codes "affine.store") place) {
-  operands = value ∷ buffer ∷ numbered_values subscripts;
-  properties = applied_entry (codes "map") (numbered_map subscripts) ∷ [];
-  attrs = es;
-  in_types = None ∷ Some t ∷ parameter_types subscripts;
-}
-
-store-rows : (place : ℕ) (value buffer : List ℕ) (subscripts : List Expression) (es : List Named) (t : TypeText)
-    → store_of value buffer subscripts es t place ≡ roll-Node (store-line place value buffer (reverse subscripts) (reverse es) t)
-unfolding plain with_property with_operands with_unwritten_result with_buffer
-store-rows place value buffer subscripts es t = simp out-roll-Node refl
-
-parameter-types : (subscripts : List Expression) → parameter_types subscripts ≡ unwritten (numbered_values subscripts) ++ []
-parameter-types subscripts =
-    sym (map-append (λ _. None) (numbering subscripts).dims (numbering subscripts).syms) ∙ sym (append-nil (unwritten (numbered_values subscripts)))
-
-load-reading : LoadReading
-load-reading place buffer subscripts es t =
-    sym (load-rows place buffer (reverse subscripts) (reverse es) t
-    ∙ ap (λ s. roll-Node (load-line place buffer s (reverse (reverse es)) t)) (reverse-reverse subscripts)
-    ∙ ap (λ s. roll-Node (load-line place buffer subscripts s t)) (reverse-reverse es)
-    ∙ ap roll-Node (line-same (made (head (codes "affine.load") place) (results_of.One typing.Follows) load_form ((buffer, subscripts), (es, (t, tt)))) _ _ _ _ _
-    (ap (λ vs. buffer ∷ vs) (sym (append-nil (numbered_values subscripts)))) refl refl
-    (ap (λ ts. Some t ∷ ts) (parameter-types subscripts)) refl))
-
-store-reading : StoreReading
-store-reading place value buffer subscripts es t =
-    sym (store-rows place value buffer (reverse subscripts) (reverse es) t
-    ∙ ap (λ s. roll-Node (store-line place value buffer s (reverse (reverse es)) t)) (reverse-reverse subscripts)
-    ∙ ap (λ s. roll-Node (store-line place value buffer subscripts s t)) (reverse-reverse es)
-    ∙ ap roll-Node (line-same (made (head (codes "affine.store") place) results_of.Zero store_form (value, ((buffer, subscripts), (es, (t, tt))))) _ _ _ _ _
-    (ap (λ vs. value ∷ buffer ∷ vs) (sym (append-nil (numbered_values subscripts)))) refl refl
-    (ap (λ ts. None ∷ Some t ∷ ts) (parameter-types subscripts)) refl))
-
--- ---- branches
-abbrev branch-line : ℕ → MapUse → List TypeText → List Node → List Node → Line
-branch-line place set ts nodes others = record (named (codes "affine.if") place) {
-  operands = set.operands;
-  properties = entry (codes "condition") set.map ∷ [];
-  regions = region_of (codes "affine.if") nodes ∷ region_of (codes "affine.if") others ∷ [];
-  in_types = unwritten set.operands;
-  out_types = all_written ts;
-}
-
-branch-rows : (place : ℕ) (set : MapUse) (ts : List TypeText) (nodes others : List Node)
-    → branch_of set ts nodes others place ≡ roll-Node (branch-line place set (reverse ts) (reverse nodes) (reverse others))
-unfolding plain with_property with_operands with_results with_body
-branch-rows place set ts nodes others = simp out-roll-Node refl
-
-branch-reading : BranchReading
-branch-reading place set ts nodes others =
-    sym (branch-rows place (use_of set) (reverse ts) (reverse nodes) (reverse others)
-    ∙ ap (λ s. roll-Node (branch-line place (use_of set) s (reverse (reverse nodes)) (reverse (reverse others)))) (reverse-reverse ts)
-    ∙ ap (λ s. roll-Node (branch-line place (use_of set) ts s (reverse (reverse others)))) (reverse-reverse nodes)
-    ∙ ap (λ s. roll-Node (branch-line place (use_of set) ts nodes s)) (reverse-reverse others)
-    ∙ ap roll-Node (line-same (made (head (codes "affine.if") place) results_of.Several branch_form (set, (ts, (nodes, (others, tt))))) _ _ _ _ _
-    (sym (append-nil set.1)) refl refl (sym (append-nil (unwritten set.1))) refl))
+predicate-place : (word : List ℕ) → is_word_of key.Predicate word ≡ true → predicate_of word ≡ place_in predicates word
+unfolding predicates
+predicate-place word h = first-of-ten _ _ _ _ _ _ _ _ _ _ h
 
 -- ---- carried values
 lists-same : (inits inits' : List (List ℕ)) (args args' : List BodyArg) → inits ≡ inits' → args ≡ args'
@@ -147,107 +76,179 @@ pairs-are lists (c ∷ cs) =
     pairs-are (with_pair lists (pair_of c) c.0.ty) cs
     ∙ lists-same _ _ _ _ (append_assoc lists.inits (c.1 ∷ []) (inits_of cs)) (append_assoc lists.args (c.0 ∷ []) (args_of cs))
 
-carried-are : (cs : List Carrying) → carried_lists (reverse (carried_of cs).pairs) (carried_of cs).types ≡ record { inits = inits_of cs; args = args_of cs }
+carried-are : (cs : List Carrying) → record { inits = inits_of cs; args = args_of cs } ≡ carried_lists (reverse (carried_of cs).pairs) (carried_of cs).types
 carried-are cs =
-    ap (λ ps. carried_lists ps (types_of cs)) (reverse-reverse (map pair_of cs)) ∙ pairs-are (record { inits = []; args = [] }) cs
+    sym (ap (λ ps. carried_lists ps (types_of cs)) (reverse-reverse (map pair_of cs)) ∙ pairs-are (record { inits = []; args = [] }) cs)
 
-as-many : (cs : List Carrying) → length (all_written (types_of cs)) ≡ length (unwritten (inits_of cs))
-as-many cs =
-    length-map (types_of cs) (λ (t : TypeText). Some t) ∙ length-map cs (λ (c : Carrying). c.0.ty) ∙ sym (length-map cs (λ (c : Carrying). c.1))
-    ∙ sym (length-map (inits_of cs) (λ _. None))
-
--- behind these types those of carried values are the last
-carried-types : (ts : List (Option TypeText)) (cs : List Carrying)
-    → ts ++ all_written (types_of cs) ≡ with_last (all_written (types_of cs)) (ts ++ (unwritten (inits_of cs) ++ []))
-carried-types ts cs =
-    sym (last-types (all_written (types_of cs)) (unwritten (inits_of cs)) ts (as-many cs))
-    ∙ ap (λ us. with_last (all_written (types_of cs)) (ts ++ us)) (sym (append-nil (unwritten (inits_of cs))))
-
--- the region with all its arguments
-all-args : (name : List ℕ) (args : List BodyArg) (nodes : List Node)
-    → roll-Body (record { args = counter name ∷ args; nodes = nodes }) ∷ []
-    ≡ (let alone : List Body = roll-Body (record { args = []; nodes = nodes }) ∷ [] in
-    let others : List Body = with_args_in (args ++ args_in alone) alone in with_args_in (counter name ∷ args_in others) others)
-all-args name args nodes =
-    let alone : List Body = roll-Body (record { args = []; nodes = nodes }) ∷ [] in
-    sym (ap (λ bodies. with_args_in (counter name ∷ args_in bodies) bodies)
-    (ap (λ xs. with_args_in (args ++ xs) alone) (ap (λ (b : Body-F Body Node). b.args) (out-roll-Body (record { args = []; nodes = nodes })))
-    ∙ ap (λ xs. with_args_in xs alone) (append-nil args)
-    ∙ ap (λ (b : Body-F Body Node). roll-Body (record b { args = args }) ∷ []) (out-roll-Body (record { args = []; nodes = nodes })))
-    ∙ ap (λ (b : Body-F Body Node). roll-Body (record b { args = counter name ∷ b.args }) ∷ []) (out-roll-Body (record { args = args; nodes = nodes })))
-
--- ---- loops of values
-abbrev counted-line : ℕ → List ℕ → List (List ℕ) → CarriedLists → List TypeText → List Node → List Named → Line
-counted-line place name bounds lists ts nodes es = record (named (codes "scf.for") place) {
-  operands = bounds ++ lists.inits;
-  attrs = es;
-  regions = roll-Body (record { args = counter name ∷ lists.args; nodes = ended (codes "scf.yield") nodes }) ∷ [];
-  in_types = unwritten bounds ++ all_written ts;
+-- with carried values that are in these lists
+abbrev with-lists : Line → List TypeText → CarriedLists → Line
+with-lists n ts lists = record n {
+  operands = lists.inits ++ n.operands;
+  regions = with_args_before lists.args n.regions;
+  in_types = with_last (all_written ts) n.in_types;
   out_types = all_written ts;
 }
 
-counted-rows : (place : ℕ) (name lower upper by : List ℕ) (carried : Carried) (nodes : List Node) (es : List Named)
-    → counted_loop_of name lower upper by carried nodes es place
-    ≡ roll-Node (counted-line place name (lower ∷ upper ∷ by ∷ []) (carried_lists (reverse carried.pairs) carried.types) carried.types (reverse nodes) (reverse es))
-unfolding plain with_operands with_carried with_region
-counted-rows place name lower upper by carried nodes es = simp out-roll-Node refl
+-- ---- what an item must be so that it is read
+abbrev IsRead : (i : Item) → Of i → Type 0
+IsRead item.Operands vs = HasFirst vs
+IsRead (item.Word k) word = is_word_of k word ≡ true
+IsRead (item.Angled k) word = is_word_of k word ≡ true
+IsRead _ _ = Unit {0}
 
-counted-reading : CountedReading
-counted-reading place name lower upper by cs nodes es =
-    let bounds = lower ∷ upper ∷ by ∷ [] in
-    sym (counted-rows place name lower upper by (carried_of cs) (reverse nodes) (reverse es)
-    ∙ ap (λ lists. roll-Node (counted-line place name bounds lists (types_of cs) (reverse (reverse nodes)) (reverse (reverse es)))) (carried-are cs)
-    ∙ ap (λ s. roll-Node (counted-line place name bounds (record { inits = inits_of cs; args = args_of cs }) (types_of cs) s (reverse (reverse es)))) (reverse-reverse nodes)
-    ∙ ap (λ s. roll-Node (counted-line place name bounds (record { inits = inits_of cs; args = args_of cs }) (types_of cs) nodes s)) (reverse-reverse es)
-    ∙ ap roll-Node (line-same (made (head (codes "scf.for") place) results_of.Several counted_form (name, (lower, (upper, (by, (cs, (nodes, (es, tt)))))))) _ _ _ _ _
-    (ap (λ vs. bounds ++ vs) (sym (append-nil (inits_of cs)))) refl (all-args name (args_of cs) (ended (codes "scf.yield") nodes))
-    (carried-types (unwritten bounds) cs) refl))
+several-first : (ws : List Word) (vs : List (List ℕ)) → Several (single value) Always ws vs → HasFirst vs
+several-first ws vs (one a h) = tt
+several-first ws vs (one_more a us others h s) = tt
 
--- ---- loops of maps
-abbrev loop-line : ℕ → List ℕ → MapUse → MapUse → ℤ → CarriedLists → List TypeText → List Node → List Named → Line
-loop-line place name lower upper by lists ts nodes es = record (named (codes "affine.for") place) {
-  operands = (lower.operands ++ upper.operands) ++ lists.inits;
-  properties = entry (codes "lowerBoundMap") lower.map ∷ entry (codes "upperBoundMap") upper.map ∷ entry (codes "step") (step by)
-      ∷ sizes_entry (pos (length lower.operands) ∷ pos (length upper.operands) ∷ pos (length ts) ∷ []) ∷ [];
-  attrs = es;
-  regions = roll-Body (record { args = counter name ∷ lists.args; nodes = terminated nodes }) ∷ [];
-  in_types = (unwritten lower.operands ++ unwritten upper.operands) ++ all_written ts;
-  out_types = all_written ts;
-}
+is-read : (i : Item) (ws : List Word) (v : Of i) → Gives i ws v → IsRead i v
+is-read i ws v (operands us vs s) = several-first us vs s
+is-read i ws v (a_word k word h) = h
+is-read i ws v (angled k word h) = h
+is-read i ws v g = tt
 
-loop-rows : (place : ℕ) (name : List ℕ) (lower upper : MapUse) (by : ℤ) (carried : Carried) (nodes : List Node) (es : List Named)
-    → loop_of name lower upper by carried nodes es place
-    ≡ roll-Node (loop-line place name lower upper by (carried_lists (reverse carried.pairs) carried.types) carried.types (reverse nodes) (reverse es))
-unfolding plain with_property with_operands with_carried with_region
-loop-rows place name lower upper by carried nodes es = simp out-roll-Node refl
+-- ---- items
+given-type : (w : Wanted) (s : Slots) (t : TypeText) (n : Line) → give (item.Type w s) t n ≡ given (gift_of (item.Type w s) (type_values w t)) n
+given-type wanted.Any s t n = refl
+given-type wanted.Buffer s t n = refl
+given-type wanted.Vector s t n = refl
 
--- as many values as types behind the bounds
-sizes-same : (lower upper : ℕ) (cs : List Carrying) (e f g : Named)
-    → e ∷ f ∷ g ∷ sizes_entry (pos lower ∷ pos upper ∷ pos (length (types_of cs)) ∷ []) ∷ []
-    ≡ (let behind : ℕ = length (inits_of cs ++ []) in
-    e ∷ f ∷ g ∷ sizes_entry (pos lower ∷ first_numbers (sizes_entry (pos upper ∷ pos behind ∷ []) ∷ [])) ∷ [])
-sizes-same lower upper cs e f g =
-    let many : length (types_of cs) ≡ length (inits_of cs ++ []) =
-    length-map cs (λ (c : Carrying). c.0.ty) ∙ sym (length-map cs (λ (c : Carrying). c.1)) ∙ ap length (sym (append-nil (inits_of cs))) in
-    ap (λ k. e ∷ f ∷ g ∷ sizes_entry (pos lower ∷ pos upper ∷ pos k ∷ []) ∷ []) many
-    ∙ ap (λ ns. e ∷ f ∷ g ∷ sizes_entry (pos lower ∷ ns) ∷ []) (sym (sizes-first (pos upper ∷ pos (length (inits_of cs ++ [])) ∷ []) []))
+-- a word of a property as the property
+with-entry : (n : Line) (k : Key) (p q : ℕ) → p ≡ q
+    → record n { properties = entry (property_of k) (attr.Number (pos q) long) ∷ n.properties } ≡ record n { properties = entry (property_of k) (attr.Number (pos p) long) ∷ n.properties }
+with-entry n k p q e = ap (λ (x : ℕ). let m : Line = record n { properties = entry (property_of k) (attr.Number (pos x) long) ∷ n.properties } in m) (sym e)
 
-loop-reading : LoopReading
-loop-reading place name lower upper by cs nodes es =
-    let lists : CarriedLists = record { inits = inits_of cs; args = args_of cs } in
-    let around : CarriedLists → List Node → List Named → Node =
-    λ l n e. roll-Node (loop-line place name (use_of lower) (use_of upper) (pos by) l (types_of cs) n e) in
-    sym (loop-rows place name (use_of lower) (use_of upper) (pos by) (carried_of cs) (reverse nodes) (reverse es)
-    ∙ ap (λ l. around l (reverse (reverse nodes)) (reverse (reverse es))) (carried-are cs)
-    ∙ ap (λ s. around lists s (reverse (reverse es))) (reverse-reverse nodes)
-    ∙ ap (λ s. around lists nodes s) (reverse-reverse es)
-    ∙ ap roll-Node (line-same (made (head (codes "affine.for") place) results_of.Several loop_form (name, (lower, (upper, (by, (cs, (nodes, (es, tt)))))))) _ _ _ _ _
-    (append_assoc lower.1 upper.1 (inits_of cs) ∙ ap (λ vs. lower.1 ++ (upper.1 ++ vs)) (sym (append-nil (inits_of cs))))
-    (sizes-same (length lower.1) (length upper.1) cs _ _ _)
-    (all-args name (args_of cs) (terminated nodes))
-    (carried-types (unwritten lower.1 ++ unwritten upper.1) cs
-    ∙ ap (with_last (all_written (types_of cs))) (append_assoc (unwritten lower.1) (unwritten upper.1) (unwritten (inits_of cs) ++ [])))
-    refl))
+given-word : (k : Key) (word : List ℕ) (n : Line) → is_word_of k word ≡ true → give (item.Word k) word n ≡ given (gift_of (item.Word k) (word_values k word)) n
+given-word key.Predicate word n h = with-entry n key.Predicate (predicate_of word) (place_in predicates word) (predicate-place word h)
+given-word key.Kind word n h = refl
+given-word key.StaticPosition word n h = absurd (cc)
+given-word key.Mask word n h = absurd (cc)
+
+given-angled : (k : Key) (word : List ℕ) (n : Line) → is_word_of k word ≡ true → give (item.Angled k) word n ≡ given (gift_of (item.Angled k) (angled_values k word)) n
+given-angled key.Predicate word n h = with-entry n key.Predicate (predicate_of word) (place_in predicates word) (predicate-place word h)
+given-angled key.Kind word n h = refl
+given-angled key.StaticPosition word n h = absurd (cc)
+given-angled key.Mask word n h = absurd (cc)
+
+-- two lists that are turned twice
+turned : {A B C : Type 0} (f : List A → List B → C) (xs : List A) (ys : List B) → f xs ys ≡ f (reverse (reverse xs)) (reverse (reverse ys))
+turned f xs ys = sym (ap (λ us. f us (reverse (reverse ys))) (reverse-reverse xs) ∙ ap (f xs) (reverse-reverse ys))
+
+turned-once : {A C : Type 0} (f : List A → C) (xs : List A) → f xs ≡ f (reverse (reverse xs))
+turned-once f xs = sym (ap f (reverse-reverse xs))
+
+-- what is given of a value is what the row gives of it
+given-same : (i : Item) (v : Of i) (n : Line) → IsRead i v → give i v n ≡ given (gift_of i (item_values i v)) n
+given-same (item.Operand t) v n h = refl
+given-same item.OptionalOperand vs n h = turned-once (λ us. let m : Line = record n { operands = us ++ n.operands } in m) vs
+given-same item.Operands [] n h = absurd h
+given-same item.Operands (v ∷ vs) n h = turned-once (λ us. let m : Line = record n { operands = v ∷ (us ++ n.operands) } in m) vs
+given-same item.TypedOperands (vs, ts) n h =
+    turned (λ us ss. let m : Line = record n { operands = us ++ n.operands; in_types = all_written ss } in m) vs ts
+given-same item.Element (buffer, indices) n h = turned-once (λ us. let m : Line = record n { operands = buffer ∷ (us ++ n.operands) } in m) indices
+given-same (item.Type w s) t n h = given-type w s t n
+given-same item.ChoiceTypes (condition, t) n h = refl
+given-same (item.Word k) word n h = given-word k word n h
+given-same (item.Angled k) word n h = given-angled k word n h
+given-same (item.Numbers k) numbers n h =
+    turned-once (λ ns. let m : Line = record n { properties = entry (property_of k) (attr.Array long ns) ∷ n.properties } in m) numbers
+given-same item.Overflow flags n h = turned-once (λ es. let m : Line = record n { properties = es ++ n.properties } in m) (flag_entries flags)
+given-same item.Marks es n h = turned-once (λ xs. let m : Line = record n { attrs = xs } in m) es
+given-same item.Constant c n h = refl
+given-same item.Map (a, vs) n h = refl
+given-same item.Set (a, vs) n h = refl
+given-same item.Access (buffer, subscripts) n h = turned-once (λ ss. give item.Access (buffer, ss) n) subscripts
+given-same item.Counter name n h = refl
+given-same item.LowerBound (a, vs) n h = refl
+given-same item.UpperBound (a, vs) n h = refl
+given-same item.Step s n h = refl
+given-same item.Carried cs n h = ap (with-lists n (types_of cs)) (carried-are cs)
+given-same item.ResultTypes ts n h = turned-once (λ us. let m : Line = record n { out_types = all_written us } in m) ts
+given-same item.Region nodes n h = turned-once (λ ns. let m : Line = record n { regions = region_of n.name ns ∷ n.regions } in m) nodes
+given-same item.Else nodes n h = turned-once (λ ns. let m : Line = record n { regions = region_of n.name ns ∷ n.regions } in m) nodes
+given-same item.ByHand v n h = refl
+
+no-operand : (k : Key) (word : List ℕ) → [] ≡ unwritten (gift_of (item.Word k) (word_values k word)).operands
+no-operand key.Predicate word = refl
+no-operand key.Kind word = refl
+no-operand key.StaticPosition word = refl
+no-operand key.Mask word = refl
+
+no-operand-angled : (k : Key) (word : List ℕ) → [] ≡ unwritten (gift_of (item.Angled k) (angled_values k word)).operands
+no-operand-angled key.Predicate word = refl
+no-operand-angled key.Kind word = refl
+no-operand-angled key.StaticPosition word = refl
+no-operand-angled key.Mask word = refl
+
+no-operand-typed : (w : Wanted) (s : Slots) (t : TypeText) → [] ≡ unwritten (gift_of (item.Type w s) (type_values w t)).operands
+no-operand-typed wanted.Any s t = refl
+no-operand-typed wanted.Buffer s t = refl
+no-operand-typed wanted.Vector s t = refl
+
+-- and a type is opened for each operand that it gives
+opened-same : (i : Item) (v : Of i) → IsRead i v → opened i v ≡ unwritten (gift_of i (item_values i v)).operands
+opened-same (item.Operand t) v h = refl
+opened-same item.OptionalOperand vs h = turned-once unwritten vs
+opened-same item.Operands [] h = absurd h
+opened-same item.Operands (v ∷ vs) h = turned-once (λ us. None ∷ unwritten us) vs
+opened-same item.TypedOperands (vs, ts) h = turned-once unwritten vs
+opened-same item.Element (buffer, indices) h = turned-once (λ us. None ∷ unwritten us) indices
+opened-same (item.Type w s) t h = no-operand-typed w s t
+opened-same item.ChoiceTypes (condition, t) h = refl
+opened-same (item.Word k) word h = no-operand k word
+opened-same (item.Angled k) word h = no-operand-angled k word
+opened-same (item.Numbers k) numbers h = refl
+opened-same item.Overflow flags h = refl
+opened-same item.Marks es h = refl
+opened-same item.Constant c h = refl
+opened-same item.Map (a, vs) h = refl
+opened-same item.Set (a, vs) h = refl
+opened-same item.Access (buffer, subscripts) h = turned-once (λ ss. opened item.Access (buffer, ss)) subscripts
+opened-same item.Counter name h = refl
+opened-same item.LowerBound (a, vs) h = refl
+opened-same item.UpperBound (a, vs) h = refl
+opened-same item.Step s h = refl
+opened-same item.Carried cs h = ap (λ (lists : CarriedLists). unwritten lists.inits) (carried-are cs)
+opened-same item.ResultTypes ts h = refl
+opened-same item.Region nodes h = refl
+opened-same item.Else nodes h = refl
+opened-same item.ByHand v h = refl
+
+-- ---- parts
+-- the values of a part and of those behind it are split again
+behind-part : (number place : ℕ) (p : Part) (ps : List Part) (types : List (Option TypeText)) (v : Of p.1) (vs : Values ps)
+    → made_of number place (p ∷ ps) types (form_values (p ∷ ps) (v, vs))
+    ≡ (let own = gift_of p.1 (item_values p.1 v) in given own (made_of number place ps (types ++ unwritten own.operands) (form_values ps vs)))
+behind-part number place p ps types v vs =
+    let rest : All (sorts_of (item_symbols p.1)) × All (sorts_of (form_symbols ps)) → Line =
+    λ both. let own = gift_of p.1 both.0 in given own (made_of number place ps (types ++ unwritten own.operands) both.1) in
+    let behind = joined (item_symbols p.1) (form_symbols ps) (item_values p.1 v) (form_values ps vs) in
+    ap (λ (both : All (sorts_of (lead_symbols p.0)) × All (sorts_of (item_symbols p.1 ++ form_symbols ps))). rest (split (item_symbols p.1) (form_symbols ps) both.1))
+    (split-joined (lead_symbols p.0) (item_symbols p.1 ++ form_symbols ps) (lead_values p.0) behind)
+    ∙ ap rest (split-joined (item_symbols p.1) (form_symbols ps) (item_values p.1 v) (form_values ps vs))
+
+module _ (number place : ℕ) where
+  parts-same : (ps : List Part) (types : List (Option TypeText)) (ws : List Word) (vs : Values ps) → Makes ps ws vs
+      → given_all ps vs (blank (head_at number place) (results_at number) (types ++ all_opened ps vs)) ≡ made_of number place ps types (form_values ps vs)
+  parts-same [] types ws vs m = ap (λ (ts : List (Option TypeText)). blank (head_at number place) (results_at number) ts) (append-nil types)
+  parts-same (p ∷ ps) types ws (v, vs) (part q qs own later u us g m) =
+      let read : IsRead p.1 v = is-read p.1 own v g in
+      let gift = gift_of p.1 (item_values p.1 v) in
+      let behind : List (Option TypeText) → Line = λ ts. give p.1 v (given_all ps vs (blank (head_at number place) (results_at number) ts)) in
+      ap behind (sym (append_assoc types (opened p.1 v) (all_opened ps vs)))
+      ∙ ap (λ ts. behind ((types ++ ts) ++ all_opened ps vs)) (opened-same p.1 v read)
+      ∙ ap (give p.1 v) (parts-same ps (types ++ unwritten gift.operands) later vs m)
+      ∙ given-same p.1 v (made_of number place ps (types ++ unwritten gift.operands) (form_values ps vs)) read
+      ∙ sym (behind-part number place p ps types v vs)
 
 pub reading-law : ReadingLaw
-reading-law = (forms-of-rows, bound-reading, loop-reading, counted-reading, branch-reading, map-reading, load-reading, store-reading)
+reading-law number place ws vs m = ap roll-Node (parts-same number place (form_of number) [] ws vs m)
+
+pub row-law : RowLaw
+row-law number node same h =
+    let place = (out-Node node).place in
+    let values = values_of (form_of number) (out-Node node) in
+    let read = form-law (results_at number) (form_of number) node h in (
+      read.0,
+      sym (reading-law number place (words_of (form_of number) (out-Node node)) values read.0)
+          ∙ ap (λ (head : Head). roll-Node (made head (results_at number) (form_of number) values)) (sym same) ∙ read.1,
+    )

@@ -6,9 +6,7 @@ use Rattle.av_tree.specs.declared.node.Body.{Body, Body-F, out-Body, out-roll-Bo
 use Rattle.av_tree.specs.declared.node.BodyArg.{BodyArg}
 use Rattle.av_tree.specs.declared.node.Node.{Node}
 use Rattle.av_tree.specs.declared.written.TypeText.{TypeText}
-use Rattle.av_form_laws.specs.Items.{with_last}
-use Rattle.av_form_laws.specs.Lines.{Line, back, front}
-use Rattle.av_form_laws.specs.Loops.{args_in, with_args_in}
+use Rattle.av_values.specs.Gifts.{Line, args_in, back, front, with_args_in, with_last}
 
 -- ---- lists
 all-but : {A : Type 0} (xs ys : List A) → length (xs ++ ys) - length ys ≡ length xs

@@ -11,17 +11,17 @@ use Rattle.av_dialects.specs.declared.item.Lead.TheVariants as lead
 use Rattle.av_dialects.specs.declared.item.Results.TheVariants as results
 use Rattle.av_dialects.specs.Rows.{Part}
 use Rattle.av_dialects.specs.Types.{needs}
-use Rattle.av_form_laws.specs.Examples.{LoopExamples, a, b, body, c, end, loop_words, typed_arg, whole_loop}
+use Rattle.av_form_laws.specs.Examples.{LoopExamples, a, b, body, c, end, loop_form, loop_words, typed_arg, whole_loop}
 use Rattle.av_form_laws.specs.Grammar.{spell}
-use Rattle.av_form_laws.specs.Items.{AreWanted, Fits, applied_entry, rest, taken, with_last}
-use Rattle.av_form_laws.specs.Lines.{Line, all_written, unwritten}
-use Rattle.av_form_laws.specs.Loops.{args_in, args_of, first_name, inits_of, number_map, paired, sizes_entry, step_entry, types_of, value_map, with_args_in, written_in}
-use Rattle.av_form_laws.specs.Reading.{loop_form}
+use Rattle.av_form_laws.specs.Items.{AreWanted, Fits, applied_entry, rest, taken}
+use Rattle.av_form_laws.specs.Loops.{args_of, first_name, inits_of, number_map, paired, step_entry, types_of, value_map, written_in}
 use Rattle.av_form_laws.specs.Rows.{Whole, blank, head_of, words_of}
 use Rattle.av_form_laws.specs.Values.{Of}
 use Rattle.av_form_laws.specs.Words.{Word, lead_words}
-use Rattle.av_form_laws.proofs.Entries.{out-array, out-map, step-first}
+use Rattle.av_form_laws.proofs.Entries.{out-map, step-first}
+use Rattle.av_values.proofs.Entries.{out-array}
 use Rattle.av_form_laws.proofs.LoopExamples.{args-are, end-stays, nodes-are, others-are, region-is, written-end, yield}
+use Rattle.av_values.specs.Gifts.{Line, all_written, args_in, sizes_entry, unwritten, with_args_in, with_last}
 
 -- the operation has these parts and nothing besides, and these are its words
 abbrev Fitting : List Part → Line → Line → List Word → Type 0

@@ -23,13 +23,12 @@ use Rattle.av_dialects.specs.declared.item.Wanted.TheVariants as wanted
 use Rattle.av_dialects.specs.Rows.{Part}
 use Rattle.av_form_laws.specs.Attributes.{written_map}
 use Rattle.av_form_laws.specs.Items.{Fits, IsWanted, applied_entry, give}
-use Rattle.av_form_laws.specs.Lines.{Line, unwritten}
-use Rattle.av_form_laws.specs.Loops.{number_map, sizes_entry, step_entry, value_map}
-use Rattle.av_form_laws.specs.Reading.{loop_form}
+use Rattle.av_form_laws.specs.Loops.{number_map, step_entry, value_map}
 use Rattle.av_form_laws.specs.Subscripts.{leaf}
 use Rattle.av_form_laws.specs.Properties.{is_word_of}
 use Rattle.av_form_laws.specs.Rows.{FitsRow, words_of}
 use Rattle.av_form_laws.specs.Words.{Word, comma, entries, number, of_type, plain as plain_word, region, sign, subscript, value, variable}
+use Rattle.av_values.specs.Gifts.{Line, sizes_entry, unwritten}
 
 -- an operation of these operands and types
 abbrev pub line : List (List ℕ) → List (Option TypeText) → List (Option TypeText) → Line
@@ -245,6 +244,11 @@ AccessExamples =
     × ¬ FitsRow results.Zero accessing (access_line (codes "d0" ∷ []) (expr.Name (codes "s0") ∷ []))
 
 -- ---- a whole loop
+abbrev pub loop_form : List Part
+loop_form =
+    (lead.Blank, item.Counter) ∷ (lead.Equal, item.LowerBound) ∷ (lead.To, item.UpperBound) ∷ (lead.Nothing, item.Step)
+    ∷ (lead.Nothing, item.Carried) ∷ (lead.Blank, item.Region) ∷ (lead.Nothing, item.Marks) ∷ []
+
 -- `%a = 0 to %b step 2 iter_args(%d = %c) -> (T) {..} {..}`
 abbrev pub whole_loop : TypeText → Named → Line
 whole_loop t e = record {

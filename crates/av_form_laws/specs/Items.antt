@@ -1,6 +1,6 @@
 -- An item of a form as a lens between an operation and one value: the value, the operation without it, and the value put back.
 -- The number is that of the operands that the parts behind the item need in any case.
-use Rattle.std.specs.Prelude.{ℕ, pos, ◌≡◌, Bool, true, false, List, [], ◌∷◌, ◌++◌, length, take, drop, Option, None, Some, codes}
+use Rattle.std.specs.Prelude.{ℕ, ◌≡◌, Bool, true, false, List, [], ◌∷◌, ◌++◌, length, take, drop, Option, None, Some, codes}
 use Rattle.std.specs.List.{list_all}
 use Rattle.av_tree.specs.declared.written.TypeText.{TypeText, TypeText-F, out-TypeText}
 use Rattle.av_tree.specs.declared.written.TypeText.TheOpen as types
@@ -16,11 +16,12 @@ use Rattle.av_dialects.specs.declared.item.Wanted.{Wanted}
 use Rattle.av_dialects.specs.declared.item.Wanted.TheVariants as wanted
 use Rattle.av_values.specs.declared.value.Expression.{Expression}
 use Rattle.av_form_laws.specs.Attributes.{Applied, Constant, applied_attr, constant_attr, constant_type, first_applied, first_constant, is_map, is_set}
-use Rattle.av_form_laws.specs.Lines.{Line, all_written, at_slot, back, cleared, filled, first_text, front, known, put_at_slot, type_at, unwritten}
-use Rattle.av_form_laws.specs.Loops.{Carrying, args_in, args_of, end_of, first_name, first_size, first_step, inits_of, last_numbers, nodes_in, paired, region_of, sizes_entry, step_entry, types_of, with_args_in, written_in}
+use Rattle.av_form_laws.specs.Lines.{at_slot, cleared, first_text, known, type_at}
+use Rattle.av_form_laws.specs.Loops.{Carrying, args_of, first_name, first_size, first_step, inits_of, nodes_in, paired, step_entry, types_of, written_in}
 use Rattle.av_form_laws.specs.Subscripts.{map_in, numbered_map, numbered_values, subscripts_of}
-use Rattle.av_form_laws.specs.Properties.{first_flags, first_numbers, first_word, flag_entries, is_flag, is_word_of, numbers_entry, without_flags, word_entry}
+use Rattle.av_form_laws.specs.Properties.{first_flags, first_word, flag_entries, is_flag, is_word_of, numbers_entry, without_flags, word_entry}
 use Rattle.av_form_laws.specs.Values.{Of}
+use Rattle.av_values.specs.Gifts.{Line, all_written, args_in, back, end_of, filled, first_numbers, front, last_numbers, put_at_slot, region_of, sizes_entry, unwritten, with_args_in, with_last, with_lower, with_upper}
 
 -- ---- the types of a choice
 abbrev pub condition_type : List (Option TypeText) → Option TypeText
@@ -41,25 +42,12 @@ abbrev pub applied_entry : List ℕ → Applied → Named
 applied_entry name a = entry name (applied_attr a)
 
 -- ---- bounds
--- with the property of a lower bound, and how many operands it has before the other sizes
-abbrev pub with_lower : Applied → ℕ → List Named → List Named
-with_lower a size es = applied_entry (codes "lowerBoundMap") a ∷ (front 1 es ++ sizes_entry (pos size ∷ last_numbers es) ∷ [])
-
--- with the property of an upper bound, and how many operands it has, and how many are behind them
-abbrev pub with_upper : Applied → ℕ → ℕ → List Named → List Named
-with_upper a size behind es = applied_entry (codes "upperBoundMap") a ∷ (es ++ sizes_entry (pos size ∷ pos behind ∷ []) ∷ [])
-
 -- how many operands the next bound has, and its map with them
 abbrev pub bound_size : Line → ℕ
 bound_size n = first_size (last_numbers n.properties)
 
 abbrev pub bound_taken : Line → Applied × List (List ℕ)
 bound_taken n = (first_applied n.properties, take (bound_size n) n.operands)
-
--- ---- carried values
--- the last of the types, one for each of these
-abbrev pub with_last : List (Option TypeText) → List (Option TypeText) → List (Option TypeText)
-with_last own ts = front (length own) ts ++ own
 
 -- ---- subscripts
 abbrev pub access_taken : ℕ → Line → List ℕ × List Expression
@@ -151,8 +139,8 @@ give item.Access (buffer, subscripts) n = record n {
   properties = applied_entry (codes "map") (numbered_map subscripts) ∷ n.properties;
 }
 give item.Counter name n = record n { regions = with_args_in (counter name ∷ args_in n.regions) n.regions }
-give item.LowerBound (a, vs) n = record n { operands = vs ++ n.operands; properties = with_lower a (length vs) n.properties }
-give item.UpperBound (a, vs) n = record n { operands = vs ++ n.operands; properties = with_upper a (length vs) (length n.operands) n.properties }
+give item.LowerBound (a, vs) n = record n { operands = vs ++ n.operands; properties = with_lower (applied_attr a) (length vs) n.properties }
+give item.UpperBound (a, vs) n = record n { operands = vs ++ n.operands; properties = with_upper (applied_attr a) (length vs) (length n.operands) n.properties }
 give item.Step s n = record n { properties = step_entry s ∷ n.properties }
 give item.Carried cs n = record n {
   operands = inits_of cs ++ n.operands;
@@ -272,11 +260,11 @@ Fits item.Access k n = HasFirst n.operands × AreNumbered (access_taken k n).1 k
 Fits item.Counter k n = args_in n.regions ≡ counter (first_name (args_in n.regions)) ∷ drop 1 (args_in n.regions)
 Fits item.LowerBound k n =
     (is_map (bound_taken n).0 ≡ true)
-    × (n.properties ≡ with_lower (bound_taken n).0 (length (bound_taken n).1) (front 1 (drop 1 n.properties) ++ sizes_entry (drop 1 (last_numbers n.properties)) ∷ []))
+    × (n.properties ≡ with_lower (applied_attr (bound_taken n).0) (length (bound_taken n).1) (front 1 (drop 1 n.properties) ++ sizes_entry (drop 1 (last_numbers n.properties)) ∷ []))
 Fits item.UpperBound k n =
     (is_map (bound_taken n).0 ≡ true)
     × (n.properties
-    ≡ with_upper (bound_taken n).0 (length (bound_taken n).1) (length (drop (bound_size n) n.operands)) (front 1 (drop 1 n.properties)))
+    ≡ with_upper (applied_attr (bound_taken n).0) (length (bound_taken n).1) (length (drop (bound_size n) n.operands)) (front 1 (drop 1 n.properties)))
 Fits item.Step k n = n.properties ≡ step_entry (first_step n.properties) ∷ drop 1 n.properties
 Fits item.Carried k n = AreCarried (paired (args_in n.regions) (front k n.operands)) k n × AreWanted (types_of (paired (args_in n.regions) (front k n.operands)))
 Fits item.ResultTypes k n = (n.out_types ≡ all_written (known n.out_types)) × AreWanted (known n.out_types)

@@ -9,6 +9,5 @@ pub mod Properties
 pub mod Reading
 pub mod Rows
 pub mod Subscripts
-pub mod Tables
 pub mod Values
 pub mod Words

@@ -2,21 +2,17 @@
 use Rattle.std.specs.Prelude.{ℕ, ℤ, pos, negsuc, ◌==◌, ◌&&◌, Bool, if◌then◌else◌, List, [], ◌∷◌, map, codes}
 use Rattle.std.specs.Str.{bytes_eq}
 use Rattle.av_tree.specs.declared.attribute.Attr.{Attr, Attr-F, out-Attr}
-use Rattle.av_tree.specs.declared.attribute.Attr.TheVariants as attr
 use Rattle.av_tree.specs.declared.attribute.Attr.TheOpen as attrs
 use Rattle.av_tree.specs.declared.attribute.Named.{Named, out-Named}
-use Rattle.av_tree.specs.declared.node.Body.{Body, out-Body, roll-Body}
+use Rattle.av_tree.specs.declared.node.Body.{Body, out-Body}
 use Rattle.av_tree.specs.declared.node.BodyArg.{BodyArg}
 use Rattle.av_tree.specs.declared.node.Node.{Node, Node-F, out-Node}
 use Rattle.av_tree.specs.declared.written.ExprText.TheVariants as expr
 use Rattle.av_tree.specs.declared.written.TypeText.{TypeText}
-use Rattle.av_tree.specs.declared.written.TypeText.TheVariants as types
 use Rattle.av_values.specs.Forms.{is_none}
-use Rattle.av_values.specs.Loops.{ended, step}
+use Rattle.av_values.specs.Loops.{step}
 use Rattle.av_values.specs.Nodes.{entry}
 use Rattle.av_form_laws.specs.Attributes.{Applied, written_map}
-use Rattle.av_form_laws.specs.Lines.{back}
-use Rattle.av_form_laws.specs.Properties.{first_numbers}
 
 -- ---- bounds
 -- `() -> (5)` stands for a number
@@ -30,13 +26,6 @@ value_map = written_map (record { dims = []; syms = codes "s0" ∷ []; results =
 abbrev pub natural : ℤ → ℕ
 natural (pos n) = n
 natural (negsuc n) = 0
-
--- how many operands the bounds have, and how many are behind them: the last of the properties
-abbrev pub sizes_entry : List ℤ → Named
-sizes_entry numbers = entry (codes "operandSegmentSizes") (attr.Array (types.Scalar (codes "i32")) numbers)
-
-abbrev pub last_numbers : List Named → List ℤ
-last_numbers es = first_numbers (back 1 es)
 
 abbrev pub first_size : List ℤ → ℕ
 first_size [] = 0
@@ -54,16 +43,6 @@ abbrev pub first_step : List Named → ℕ
 first_step [] = 0
 first_step (e ∷ es) = step_in (out-Attr (out-Named e).value)
 
--- ---- the first region
-abbrev pub args_in : List Body → List BodyArg
-args_in [] = []
-args_in (body ∷ bodies) = (out-Body body).args
-
--- the same with other arguments
-abbrev pub with_args_in : List BodyArg → List Body → List Body
-with_args_in args [] = []
-with_args_in args (body ∷ bodies) = roll-Body (record (out-Body body) { args = args }) ∷ bodies
-
 abbrev pub nodes_in : List Body → List Node
 nodes_in [] = []
 nodes_in (body ∷ bodies) = (out-Body body).nodes
@@ -71,10 +50,6 @@ nodes_in (body ∷ bodies) = (out-Body body).nodes
 abbrev pub first_name : List BodyArg → List ℕ
 first_name [] = []
 first_name (arg ∷ args) = arg.name
-
--- what ends a region of an operation of this name where none is written
-abbrev pub end_of : List ℕ → List ℕ
-end_of name = if bytes_eq name (codes "scf.for") then codes "scf.yield" else codes "affine.yield"
 
 -- an end without values, from no place of a text
 abbrev pub is_put_in : List ℕ → Node-F Body Node → Bool
@@ -85,10 +60,6 @@ abbrev pub written_in : List ℕ → List Node → List Node
 written_in end [] = []
 written_in end (node ∷ []) = if is_put_in end (out-Node node) then [] else node ∷ []
 written_in end (node ∷ next ∷ nodes) = node ∷ written_in end (next ∷ nodes)
-
--- the region of these written operations, in an operation of this name; its arguments come from other parts
-abbrev pub region_of : List ℕ → List Node → Body
-region_of name nodes = roll-Body (record { args = []; nodes = ended (end_of name) nodes })
 
 -- ---- carried values
 -- a carried argument and its first value

@@ -53,10 +53,6 @@ word_in (attrs.Number z t) = number_word z
 word_in (attrs.Hash name words) = only_word words
 word_in _ = []
 
-abbrev pub numbers_in : Attr-F Attr Named → List ℤ
-numbers_in (attrs.Array t numbers) = numbers
-numbers_in _ = []
-
 abbrev pub words_in : Attr-F Attr Named → List (List ℕ)
 words_in (attrs.Hash name words) = words
 words_in _ = []
@@ -65,10 +61,6 @@ words_in _ = []
 abbrev pub first_word : List Named → List ℕ
 first_word [] = []
 first_word (e ∷ es) = word_in (out-Attr (out-Named e).value)
-
-abbrev pub first_numbers : List Named → List ℤ
-first_numbers [] = []
-first_numbers (e ∷ es) = numbers_in (out-Attr (out-Named e).value)
 
 -- ---- the properties themselves
 abbrev pub word_entry : Key → List ℕ → Named

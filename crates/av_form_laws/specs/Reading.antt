@@ -1,62 +1,71 @@
--- What is made of the values of a form's parts is what the format's rows are defined to make of the same, for forms with regions, bounds, maps
--- and subscripts. Lists of these rows hold their last item first.
-use Rattle.std.specs.Prelude.{ℕ, ℤ, pos, ◌≡◌, List, [], ◌∷◌, map, reverse, codes}
-use Rattle.av_tree.specs.declared.attribute.Named.{Named}
-use Rattle.av_tree.specs.declared.node.Node.{Node, roll-Node}
+-- What is made of the values of a form's parts is what the row of the operation is defined to make of the values of its symbols. A list among these
+-- holds its last item first.
+use Rattle.std.specs.Prelude.{ℕ, pos, ◌≡◌, List, [], ◌∷◌, ◌++◌, drop, map, reverse}
+use Rattle.av_tree.specs.declared.node.Node.{Node, out-Node, roll-Node}
+use Rattle.av_tree.specs.declared.table.Symbol.{Symbol}
+use Rattle.av_tree.specs.declared.table.Symbol.TheVariants as symbol
 use Rattle.av_tree.specs.declared.written.TypeText.{TypeText}
-use Rattle.av_values.specs.Forms.{branch_of, counted_loop_of, map_operation_of}
-use Rattle.av_values.specs.Loops.{bound_of_number, bound_of_value}
-use Rattle.av_values.specs.Operations.{load_of, loop_of, store_of}
+use Rattle.av_tree.specs.Forms.{angled_symbols, form_symbols, item_symbols, lead_symbols, type_symbols, word_symbols}
 use Rattle.av_values.specs.declared.value.Carried.{Carried}
 use Rattle.av_values.specs.declared.value.CarriedPair.{CarriedPair}
-use Rattle.av_values.specs.declared.value.Expression.{Expression}
 use Rattle.av_values.specs.declared.value.MapUse.{MapUse}
+use Rattle.av_values.specs.Made.{made as row_made}
+use Rattle.av_values.specs.Sorts.{All, sorts_of}
+use Rattle.av_dialects.specs.declared.item.Item.{Item}
 use Rattle.av_dialects.specs.declared.item.Item.TheVariants as item
+use Rattle.av_dialects.specs.declared.item.Key.{Key}
+use Rattle.av_dialects.specs.declared.item.Key.TheVariants as key
+use Rattle.av_dialects.specs.declared.item.Lead.{Lead}
 use Rattle.av_dialects.specs.declared.item.Lead.TheVariants as lead
-use Rattle.av_dialects.specs.declared.item.Results.{Results}
-use Rattle.av_dialects.specs.declared.item.Results.TheVariants as results
-use Rattle.av_dialects.specs.declared.item.Slot.TheVariants as slot
-use Rattle.av_dialects.specs.declared.item.Slots.TheVariants as slots
-use Rattle.av_dialects.specs.declared.item.Typing.TheVariants as typing
+use Rattle.av_dialects.specs.declared.item.Wanted.{Wanted}
 use Rattle.av_dialects.specs.declared.item.Wanted.TheVariants as wanted
-use Rattle.av_dialects.specs.Rows.{Part, HasForm, HasName, HasResults}
-use Rattle.av_form_laws.specs.Attributes.{Applied, applied_attr}
-use Rattle.av_form_laws.specs.Loops.{Carrying, number_map, types_of, value_map}
-use Rattle.av_form_laws.specs.Rows.{made}
-use Rattle.av_form_laws.specs.Values.{Values}
+use Rattle.av_dialects.specs.Rows.{Part, form_of, name_at, results_at}
+use Rattle.av_form_laws.specs.Attributes.{Applied, applied_attr, constant_attr, constant_type}
+use Rattle.av_form_laws.specs.Grammar.{Makes}
+use Rattle.av_form_laws.specs.Lines.{first_text}
+use Rattle.av_form_laws.specs.Loops.{Carrying, types_of}
+use Rattle.av_form_laws.specs.Properties.{flag_entries}
+use Rattle.av_form_laws.specs.Rows.{FitsRow, Head, head_of, made, values_of, words_of}
+use Rattle.av_form_laws.specs.Values.{Of, Values}
+use Rattle.av_form_laws.specs.Words.{Word}
 
--- ---- the forms
-abbrev pub loop_form : List Part
-loop_form =
-    (lead.Blank, item.Counter) ∷ (lead.Equal, item.LowerBound) ∷ (lead.To, item.UpperBound) ∷ (lead.Nothing, item.Step)
-    ∷ (lead.Nothing, item.Carried) ∷ (lead.Blank, item.Region) ∷ (lead.Nothing, item.Marks) ∷ []
+-- ---- values of symbols
+-- those of symbols one behind another
+abbrev pub joined : (xs ys : List Symbol) → All (sorts_of xs) → All (sorts_of ys) → All (sorts_of (xs ++ ys))
+joined [] ys us vs = vs
+joined (symbol.Sign s ∷ xs) ys us vs = joined xs ys us vs
+joined (symbol.Word w ∷ xs) ys us vs = joined xs ys us vs
+joined (symbol.Token t ∷ xs) ys (u, us) vs = (u, joined xs ys us vs)
+joined (symbol.Rows x ∷ xs) ys (u, us) vs = (u, joined xs ys us vs)
 
-abbrev pub counted_form : List Part
-counted_form =
-    (lead.Blank, item.Counter) ∷ (lead.Equal, item.Operand typing.Follows) ∷ (lead.To, item.Operand typing.Follows)
-    ∷ (lead.Step, item.Operand typing.Follows) ∷ (lead.Nothing, item.Carried) ∷ (lead.Blank, item.Region) ∷ (lead.Nothing, item.Marks) ∷ []
+-- what stands before a part has none
+abbrev pub lead_values : (l : Lead) → All (sorts_of (lead_symbols l))
+lead_values lead.Nothing = tt
+lead_values lead.Blank = tt
+lead_values lead.Comma = tt
+lead_values lead.Colon = tt
+lead_values lead.Equal = tt
+lead_values lead.To = tt
+lead_values lead.Step = tt
+lead_values lead.Into = tt
+lead_values lead.From = tt
 
-abbrev pub branch_form : List Part
-branch_form = (lead.Blank, item.Set) ∷ (lead.Nothing, item.ResultTypes) ∷ (lead.Blank, item.Region) ∷ (lead.Nothing, item.Else) ∷ []
+abbrev pub type_values : (w : Wanted) → TypeText → All (sorts_of (type_symbols w))
+type_values wanted.Any t = (t, tt)
+type_values wanted.Buffer t = (t, tt)
+type_values wanted.Vector t = (t, tt)
 
-abbrev pub map_form : List Part
-map_form = (lead.Blank, item.Map) ∷ []
+abbrev pub word_values : (k : Key) → List ℕ → All (sorts_of (word_symbols k))
+word_values key.Predicate word = (word, tt)
+word_values key.Kind word = (word, tt)
+word_values key.StaticPosition word = tt
+word_values key.Mask word = tt
 
-abbrev pub load_form : List Part
-load_form = (lead.Blank, item.Access) ∷ (lead.Nothing, item.Marks) ∷ (lead.Colon, item.Type wanted.Buffer (slots.One (slot.Input 0))) ∷ []
-
-abbrev pub store_form : List Part
-store_form =
-    (lead.Blank, item.Operand typing.Follows) ∷ (lead.Comma, item.Access) ∷ (lead.Nothing, item.Marks)
-    ∷ (lead.Colon, item.Type wanted.Buffer (slots.One (slot.Input 1))) ∷ []
-
--- the table has an operation of this name with these results and this form
-abbrev pub IsRow : List ℕ → Results → List Part → Type 0
-IsRow name r parts = (number : ℕ) × HasName number name × HasResults number r × HasForm number parts
-
--- ---- what is made of its values
-abbrev pub made_node : List ℕ → Results → (ps : List Part) → ℕ → Values ps → Node
-made_node name r ps place vs = roll-Node (made (record { name = name; place = place; results = [] }) r ps vs)
+abbrev pub angled_values : (k : Key) → List ℕ → All (sorts_of (angled_symbols k))
+angled_values key.Predicate word = (word, tt)
+angled_values key.Kind word = (word, tt)
+angled_values key.StaticPosition word = tt
+angled_values key.Mask word = tt
 
 -- a map with its operands, and carried values, as the rows have them
 abbrev pub use_of : Applied × List (List ℕ) → MapUse
@@ -68,56 +77,52 @@ pair_of c = record { name = c.0.name; init = c.1 }
 abbrev pub carried_of : List Carrying → Carried
 carried_of cs = record { pairs = reverse (map pair_of cs); types = types_of cs }
 
+abbrev pub item_values : (i : Item) → Of i → All (sorts_of (item_symbols i))
+item_values (item.Operand _) v = (v, tt)
+item_values item.OptionalOperand vs = (reverse vs, tt)
+item_values item.Operands vs = (first_text vs, (reverse (drop 1 vs), tt))
+item_values item.TypedOperands (vs, ts) = (record { values = reverse vs; types = reverse ts }, tt)
+item_values item.Element (buffer, indices) = (buffer, (reverse indices, tt))
+item_values (item.Type w _) t = type_values w t
+item_values item.ChoiceTypes (condition, t) = (record { condition = condition; operands = t }, tt)
+item_values (item.Word k) word = word_values k word
+item_values (item.Angled k) word = angled_values k word
+item_values (item.Numbers _) numbers = (reverse numbers, tt)
+item_values item.Overflow flags = (reverse (flag_entries flags), tt)
+item_values item.Marks es = (reverse es, tt)
+item_values item.Constant c = (record { value = constant_attr c; ty = constant_type c }, tt)
+item_values item.Map v = (use_of v, tt)
+item_values item.Set v = (use_of v, tt)
+item_values item.Access (buffer, subscripts) = (buffer, (reverse subscripts, tt))
+item_values item.Counter name = (name, tt)
+item_values item.LowerBound v = (use_of v, tt)
+item_values item.UpperBound v = (use_of v, tt)
+item_values item.Step s = (pos s, tt)
+item_values item.Carried cs = (carried_of cs, tt)
+item_values item.ResultTypes ts = (reverse ts, tt)
+item_values item.Region nodes = (reverse nodes, tt)
+item_values item.Else nodes = (reverse nodes, tt)
+item_values item.ByHand v = tt
+
+abbrev pub form_values : (ps : List Part) → Values ps → All (sorts_of (form_symbols ps))
+form_values [] vs = tt
+form_values (p ∷ ps) (v, vs) =
+    joined (lead_symbols p.0) (item_symbols p.1 ++ form_symbols ps) (lead_values p.0)
+    (joined (item_symbols p.1) (form_symbols ps) (item_values p.1 v) (form_values ps vs))
+
 -- ---- what holds
-abbrev pub BoundReading : Type 0
-BoundReading = ((z : ℤ) → use_of (number_map z, []) ≡ bound_of_number z) × ((v : List ℕ) → use_of (value_map, v ∷ []) ≡ bound_of_value v)
-
-abbrev pub LoopReading : Type 0
-LoopReading =
-    (place : ℕ) (name : List ℕ) (lower upper : Applied × List (List ℕ)) (by : ℕ) (cs : List Carrying) (nodes : List Node) (es : List Named)
-    → made_node (codes "affine.for") results.Several loop_form place (name, (lower, (upper, (by, (cs, (nodes, (es, tt)))))))
-    ≡ loop_of name (use_of lower) (use_of upper) (pos by) (carried_of cs) (reverse nodes) (reverse es) place
-
-abbrev pub CountedReading : Type 0
-CountedReading =
-    (place : ℕ) (name lower upper by : List ℕ) (cs : List Carrying) (nodes : List Node) (es : List Named)
-    → made_node (codes "scf.for") results.Several counted_form place (name, (lower, (upper, (by, (cs, (nodes, (es, tt)))))))
-    ≡ counted_loop_of name lower upper by (carried_of cs) (reverse nodes) (reverse es) place
-
-abbrev pub BranchReading : Type 0
-BranchReading =
-    (place : ℕ) (set : Applied × List (List ℕ)) (ts : List TypeText) (nodes others : List Node)
-    → made_node (codes "affine.if") results.Several branch_form place (set, (ts, (nodes, (others, tt))))
-    ≡ branch_of (use_of set) (reverse ts) (reverse nodes) (reverse others) place
-
-abbrev pub MapReading : Type 0
-MapReading =
-    (place : ℕ) (word : List ℕ) (map : Applied × List (List ℕ))
-    → made_node word (results.One typing.Follows) map_form place (map, tt) ≡ map_operation_of word (use_of map) place
-
-abbrev pub LoadReading : Type 0
-LoadReading =
-    (place : ℕ) (buffer : List ℕ) (subscripts : List Expression) (es : List Named) (t : TypeText)
-    → made_node (codes "affine.load") (results.One typing.Follows) load_form place ((buffer, subscripts), (es, (t, tt)))
-    ≡ load_of buffer (reverse subscripts) (reverse es) t place
-
-abbrev pub StoreReading : Type 0
-StoreReading =
-    (place : ℕ) (value buffer : List ℕ) (subscripts : List Expression) (es : List Named) (t : TypeText)
-    → made_node (codes "affine.store") results.Zero store_form place (value, ((buffer, subscripts), (es, (t, tt))))
-    ≡ store_of value buffer (reverse subscripts) (reverse es) t place
-
--- these forms are rows of the table
-abbrev pub FormsOfRows : Type 0
-FormsOfRows =
-    IsRow (codes "affine.for") results.Several loop_form
-    × IsRow (codes "scf.for") results.Several counted_form
-    × IsRow (codes "affine.if") results.Several branch_form
-    × IsRow (codes "affine.apply") (results.One typing.Follows) map_form
-    × IsRow (codes "affine.min") (results.One typing.Follows) map_form
-    × IsRow (codes "affine.max") (results.One typing.Follows) map_form
-    × IsRow (codes "affine.load") (results.One typing.Follows) load_form
-    × IsRow (codes "affine.store") results.Zero store_form
+-- the operation of this number, before its form is read
+abbrev pub head_at : ℕ → ℕ → Head
+head_at number place = record { name = name_at number; place = place; results = [] }
 
 abbrev pub ReadingLaw : Type 0
-ReadingLaw = FormsOfRows × BoundReading × LoopReading × CountedReading × BranchReading × MapReading × LoadReading × StoreReading
+ReadingLaw = (number place : ℕ) (ws : List Word) (vs : Values (form_of number)) → Makes (form_of number) ws vs
+    → roll-Node (made (head_at number place) (results_at number) (form_of number) vs)
+    ≡ row_made number place (form_values (form_of number) vs)
+
+-- So an operation that fits the form of its row, and has no names of results yet, is what the row makes of the values of the words that are printed for it.
+abbrev pub RowLaw : Type 0
+RowLaw = (number : ℕ) (node : Node) → head_of (out-Node node) ≡ head_at number (out-Node node).place
+    → FitsRow (results_at number) (form_of number) (out-Node node)
+    → Makes (form_of number) (words_of (form_of number) (out-Node node)) (values_of (form_of number) (out-Node node))
+    × (row_made number (out-Node node).place (form_values (form_of number) (values_of (form_of number) (out-Node node))) ≡ node)

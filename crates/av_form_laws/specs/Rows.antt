@@ -7,9 +7,9 @@ use Rattle.av_dialects.specs.Rows.{Part}
 use Rattle.av_dialects.specs.Types.{needs}
 use Rattle.av_form_laws.specs.Grammar.{spell}
 use Rattle.av_form_laws.specs.Items.{Fits, give, opened, rest, taken}
-use Rattle.av_form_laws.specs.Lines.{Line, unwritten}
 use Rattle.av_form_laws.specs.Values.{Values}
 use Rattle.av_form_laws.specs.Words.{Word, lead_words}
+use Rattle.av_values.specs.Gifts.{Line, unwritten}
 
 abbrev pub values_of : (ps : List Part) → Line → Values ps
 values_of [] n = tt

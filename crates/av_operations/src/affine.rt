@@ -1,36 +1,24 @@
-//! Rows of operations of the Affine dialect.
+//! Rows of maps with their operands, and of the parts of loops.
 
-ghost use Rattle.std.specs.Prelude.{◌≡◌, ◌++◌, codes, reverse, Some, None, IfErr, IfOk, OnOk};
-ghost use Rattle.av_values.specs.Forms.{branch as the_branch};
-ghost use Rattle.av_values.specs.Nodes.{plain, with_body, with_results};
-ghost use Rattle.av_values.specs.Loops.{bound_of_number, bound_of_value, with_bound};
-ghost use Rattle.av_values.specs.Operations.{access_of, load_of as the_load_of, loop_of as the_loop_of, store_of as the_store_of, with_buffer, with_region as the_region, with_unwritten_result};
+ghost use Rattle.std.specs.Prelude.{◌≡◌, ◌++◌, Some, None, IfErr, IfOk, OnOk};
+ghost use Rattle.av_values.specs.Loops.{bound_of_number, bound_of_value};
 ghost use Rattle.av_operations.specs.rows.AffineRows.{by_row};
 
 use av_affine::{Seq, Text};
 use av_tree::table::AffineRule;
-use av_tree::{Attr, Body, ExprText, MapText, Named, Node, TypeText};
-use av_values::loops::{bound, carry, loop_variable, segment_sizes, step_of, with_terminator};
-use av_values::nodes::{
-    plain_node, plain_of, push_body, push_operands, push_property, push_results,
-    put_unwritten_result,
-};
+use av_tree::{Attr, ExprText, MapText};
 use av_values::numbers::integer_of;
 use av_values::puts::{no_nodes, no_texts, same_nodes, same_texts};
 use av_values::stack::{Fault, Stack, before, in_order, text_of};
-use av_values::subscripts::{Numbering, place_map};
-use av_values::value::{Carried, CarriedPair, Expression, MapUse};
+use av_values::value::{Carried, CarriedPair, MapUse};
 use std::alloc::Global;
 
-/// Does what a row of the Affine dialect does to the values of its symbols.
+/// Does what a row of maps or of the parts of loops does to the values of its symbols.
 pub fn reduce_affine(stack: &mut Stack, rule: AffineRule, place: u32) -> Result<(), Fault>
     ensures ok { OnOk result (by_row rule place stack.old ≡ Some stack.new) }
     ensures misshapen { IfErr result (λ fault. fault ≡ Fault.Misshapen → by_row rule place stack.old ≡ None) }
 {
     match rule {
-        AffineRule::AffineFor => affine_for(stack, place),
-        AffineRule::AffineLoad => affine_load(stack, place),
-        AffineRule::AffineStore => affine_store(stack, place),
         AffineRule::GreatestOf => same_map_use(stack),
         AffineRule::PlainLowerBound => same_map_use(stack),
         AffineRule::LeastOf => same_map_use(stack),
@@ -50,8 +38,6 @@ pub fn reduce_affine(stack: &mut Stack, rule: AffineRule, place: u32) -> Result<
         AffineRule::DimensionOperands => dimension_operands(stack),
         AffineRule::NoSymbolOperands => no_texts(stack),
         AffineRule::WrittenSymbolOperands => same_texts(stack),
-        AffineRule::AffineIf => affine_if(stack, place),
-        AffineRule::AffineMapOp => map_operation(stack, place),
         AffineRule::MapByAlias => map_by_alias(stack),
         AffineRule::SetWritten => map_written(stack),
         AffineRule::SetByAlias => map_by_alias(stack),
@@ -225,248 +211,6 @@ fn carried(stack: &mut Stack) -> Result<(), Fault>
     Ok(())
 }
 
-// What a loop is written with.
-#[derive(Drop)]
-pub(super) struct Written {
-    name: Text,
-    lower: MapUse,
-    upper: MapUse,
-    step: i128,
-    carried: Carried,
-    nodes: Seq<Node>,
-    attrs: Seq<Named>,
-}
-
-#[tactic(auto, using(av_values::proofs::Replacing::replacing))]
-fn affine_for(stack: &mut Stack, place: u32) -> Result<(), Fault>
-    ensures ok { OnOk result (by_row AffineRule.AffineFor place stack.old ≡ Some stack.new) }
-    ensures misshapen { IfErr result (λ fault. fault ≡ Fault.Misshapen → by_row AffineRule.AffineFor place stack.old ≡ None) }
-{
-    let alloc = stack.alloc();
-    let name = stack.text()?;
-    let lower = stack.map_use()?;
-    let upper = stack.map_use()?;
-    let step = stack.number()?;
-    let carried = stack.carried()?;
-    let nodes = stack.nodes()?;
-    let attrs = stack.entries()?;
-    let written = Written {
-        name,
-        lower,
-        upper,
-        step,
-        carried,
-        nodes,
-        attrs,
-    };
-    let node = loop_of(alloc, written, place)?;
-    stack.push_node(node)?;
-    Ok(())
-}
-
-fn loop_of(alloc: Global, written: Written, place: u32) -> Result<Node, Fault>
-    ensures ok { IfOk result (λ node. node ≡ the_loop_of written.name written.lower written.upper written.step written.carried written.nodes written.attrs place) }
-    ensures err { IfErr result (λ fault. fault ≡ Fault.NoMemory) }
-{
-    let Written {
-        name,
-        lower,
-        upper,
-        step,
-        carried,
-        nodes,
-        attrs,
-    } = written;
-    let word = text_of(alloc, b"affine.for")?;
-    let mut node = plain_node(alloc, word, place);
-    let counter = loop_variable(alloc, name)?;
-    let mut args = Seq::new(alloc);
-    args.push(counter)?;
-    let lower_count = bound(alloc, &mut node, b"lowerBoundMap", lower)?;
-    let upper_count = bound(alloc, &mut node, b"upperBoundMap", upper)?;
-    let step = step_of(alloc, step)?;
-    push_property(alloc, &mut node, b"step", step)?;
-    let carried_count = carry(alloc, &mut node, &mut args, carried)?;
-    let sizes = segment_sizes(alloc, lower_count, upper_count, carried_count)?;
-    push_property(alloc, &mut node, b"operandSegmentSizes", sizes)?;
-    let attrs = in_order(attrs);
-    let nodes = with_terminator(alloc, b"affine.yield", in_order(nodes))?;
-    with_region(alloc, node, attrs, Body { args, nodes })
-}
-
-/// A node with these attributes and one region.
-#[tactic(auto, unfolding(av_values::specs::Operations::with_region))]
-pub(super) fn with_region(
-    alloc: Global,
-    mut node: Node,
-    attrs: Seq<Named>,
-    body: Body,
-) -> Result<Node, Fault>
-    ensures ok { IfOk result (λ made. made ≡ the_region node attrs body) }
-    ensures err { IfErr result (λ fault. fault ≡ Fault.NoMemory) }
-{
-    let mut regions = Seq::new(alloc);
-    regions.push(body)?;
-    node.attrs = attrs;
-    node.regions = regions;
-    Ok(node)
-}
-
-// What an access is written with, but for a stored value.
-#[derive(Drop)]
-pub(super) struct WrittenAccess {
-    buffer: Text,
-    subscripts: Seq<Expression>,
-    attrs: Seq<Named>,
-    ty: TypeText,
-}
-
-#[tactic(auto, using(av_values::proofs::Replacing::replacing))]
-fn affine_load(stack: &mut Stack, place: u32) -> Result<(), Fault>
-    ensures ok { OnOk result (by_row AffineRule.AffineLoad place stack.old ≡ Some stack.new) }
-    ensures misshapen { IfErr result (λ fault. fault ≡ Fault.Misshapen → by_row AffineRule.AffineLoad place stack.old ≡ None) }
-{
-    let alloc = stack.alloc();
-    let buffer = stack.text()?;
-    let subscripts = stack.expressions()?;
-    let attrs = stack.entries()?;
-    let ty = stack.ty()?;
-    let written = WrittenAccess {
-        buffer,
-        subscripts,
-        attrs,
-        ty,
-    };
-    let node = load_of(alloc, written, place)?;
-    stack.push_node(node)?;
-    Ok(())
-}
-
-fn load_of(alloc: Global, written: WrittenAccess, place: u32) -> Result<Node, Fault>
-    ensures ok { IfOk result (λ node. node ≡ the_load_of written.buffer written.subscripts written.attrs written.ty place) }
-    ensures err { IfErr result (λ fault. fault ≡ Fault.NoMemory) }
-{
-    let name = text_of(alloc, b"affine.load")?;
-    let mut node = plain_node(alloc, name, place);
-    access(alloc, &mut node, written)?;
-    put_unwritten_result(alloc, &mut node)?;
-    Ok(node)
-}
-
-#[tactic(auto, using(av_values::proofs::Replacing::replacing))]
-fn affine_store(stack: &mut Stack, place: u32) -> Result<(), Fault>
-    ensures ok { OnOk result (by_row AffineRule.AffineStore place stack.old ≡ Some stack.new) }
-    ensures misshapen { IfErr result (λ fault. fault ≡ Fault.Misshapen → by_row AffineRule.AffineStore place stack.old ≡ None) }
-{
-    let alloc = stack.alloc();
-    let value = stack.text()?;
-    let buffer = stack.text()?;
-    let subscripts = stack.expressions()?;
-    let attrs = stack.entries()?;
-    let ty = stack.ty()?;
-    let written = WrittenAccess {
-        buffer,
-        subscripts,
-        attrs,
-        ty,
-    };
-    let node = store_of(alloc, value, written, place)?;
-    stack.push_node(node)?;
-    Ok(())
-}
-
-fn store_of(alloc: Global, value: Text, written: WrittenAccess, place: u32) -> Result<Node, Fault>
-    ensures ok { IfOk result (λ node. node ≡ the_store_of value written.buffer written.subscripts written.attrs written.ty place) }
-    ensures err { IfErr result (λ fault. fault ≡ Fault.NoMemory) }
-{
-    let name = text_of(alloc, b"affine.store")?;
-    let mut node = plain_node(alloc, name, place);
-    let mut stored = Seq::new(alloc);
-    stored.push(value)?;
-    push_operands(&mut node, stored)?;
-    access(alloc, &mut node, written)?;
-    Ok(node)
-}
-
-// The buffer, subscripts, dictionary and type of an access.
-fn access(alloc: Global, node: &mut Node, written: WrittenAccess) -> Result<(), Fault>
-    ensures ok { OnOk result (node.new ≡ access_of node.old written.buffer written.subscripts written.attrs written.ty) }
-    ensures err { IfErr result (λ fault. fault ≡ Fault.NoMemory) }
-{
-    let WrittenAccess {
-        buffer,
-        subscripts,
-        attrs,
-        ty,
-    } = written;
-    let attrs = in_order(attrs);
-    put_buffer(node, buffer, ty, attrs)?;
-    let Numbering { map, dims, syms } = place_map(alloc, subscripts)?;
-    push_operands(node, dims)?;
-    push_operands(node, syms)?;
-    push_property(alloc, node, b"map", Attr::Map(map))?;
-    Ok(())
-}
-
-#[tactic(auto, unfolding(av_values::specs::Operations::with_buffer))]
-fn put_buffer(node: &mut Node, buffer: Text, ty: TypeText, attrs: Seq<Named>) -> Result<(), Fault>
-    ensures ok { OnOk result (node.new ≡ with_buffer node.old buffer ty attrs) }
-    ensures err { IfErr result (λ fault. fault ≡ Fault.NoMemory) }
-{
-    node.operands.push(buffer)?;
-    node.in_types.push(Some(ty))?;
-    node.attrs = attrs;
-    Ok(())
-}
-
-fn map_operation_node(alloc: Global, mut node: Node, map_use: MapUse) -> Result<Node, Fault>
-    ensures ok { IfOk result (λ made. made ≡ with_unwritten_result (with_bound node (codes "map") map_use)) }
-    ensures err { IfErr result (λ fault. fault ≡ Fault.NoMemory) }
-{
-    let _number = bound(alloc, &mut node, b"map", map_use)?;
-    put_unwritten_result(alloc, &mut node)?;
-    Ok(node)
-}
-
-// A branch without its regions.
-fn branch_head(
-    alloc: Global,
-    place: u32,
-    set_use: MapUse,
-    types: Seq<TypeText>,
-) -> Result<Node, Fault>
-    ensures ok { IfOk result (λ node. node ≡ with_results (with_bound (plain (codes "affine.if") place) (codes "condition") set_use) (reverse types)) }
-    ensures err { IfErr result (λ fault. fault ≡ Fault.NoMemory) }
-{
-    let mut node = plain_of(alloc, b"affine.if", place)?;
-    let _number = bound(alloc, &mut node, b"condition", set_use)?;
-    let types = in_order(types);
-    push_results(alloc, &mut node, types.as_slice())?;
-    Ok(node)
-}
-
-// A node with one more region of these operations, which stand from the last to the first.
-fn with_branch(alloc: Global, mut node: Node, nodes: Seq<Node>) -> Result<Node, Fault>
-    ensures ok { IfOk result (λ made. made ≡ with_body node (the_branch nodes)) }
-    ensures err { IfErr result (λ fault. fault ≡ Fault.NoMemory) }
-{
-    let body = branch(alloc, nodes)?;
-    push_body(&mut node, body)?;
-    Ok(node)
-}
-
-// A region without arguments, which ends with a yield; the operations stand from the last to the first.
-fn branch(alloc: Global, nodes: Seq<Node>) -> Result<Body, Fault>
-    ensures ok { IfOk result (λ body. body ≡ the_branch nodes) }
-    ensures err { IfErr result (λ fault. fault ≡ Fault.NoMemory) }
-{
-    let nodes = with_terminator(alloc, b"affine.yield", in_order(nodes))?;
-    Ok(Body {
-        args: Seq::new(alloc),
-        nodes,
-    })
-}
-
 #[tactic(auto, using(av_values::proofs::Replacing::replacing))]
 fn map_by_alias(stack: &mut Stack) -> Result<(), Fault>
     ensures ok { OnOk result (by_row AffineRule.MapByAlias 0 stack.old ≡ Some stack.new) }
@@ -479,35 +223,5 @@ fn map_by_alias(stack: &mut Stack) -> Result<(), Fault>
         operands: in_order(operands),
     };
     stack.push_map_use(map_use)?;
-    Ok(())
-}
-
-#[tactic(auto, using(av_values::proofs::Replacing::replacing))]
-fn map_operation(stack: &mut Stack, place: u32) -> Result<(), Fault>
-    ensures ok { OnOk result (by_row AffineRule.AffineMapOp place stack.old ≡ Some stack.new) }
-    ensures misshapen { IfErr result (λ fault. fault ≡ Fault.Misshapen → by_row AffineRule.AffineMapOp place stack.old ≡ None) }
-{
-    let alloc = stack.alloc();
-    let word = stack.text()?;
-    let map_use = stack.map_use()?;
-    let node = map_operation_node(alloc, plain_node(alloc, word, place), map_use)?;
-    stack.push_node(node)?;
-    Ok(())
-}
-
-#[tactic(auto, using(av_values::proofs::Replacing::replacing))]
-fn affine_if(stack: &mut Stack, place: u32) -> Result<(), Fault>
-    ensures ok { OnOk result (by_row AffineRule.AffineIf place stack.old ≡ Some stack.new) }
-    ensures misshapen { IfErr result (λ fault. fault ≡ Fault.Misshapen → by_row AffineRule.AffineIf place stack.old ≡ None) }
-{
-    let alloc = stack.alloc();
-    let set_use = stack.map_use()?;
-    let types = stack.types()?;
-    let head = branch_head(alloc, place, set_use, types)?;
-    let nodes = stack.nodes()?;
-    let half = with_branch(alloc, head, nodes)?;
-    let others = stack.nodes()?;
-    let node = with_branch(alloc, half, others)?;
-    stack.push_node(node)?;
     Ok(())
 }

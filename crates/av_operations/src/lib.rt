@@ -1,14 +1,11 @@
-//! What the rows of the named forms of operations make.
+//! What the rows of operations make, and the rows of the parts that only they have.
 #![tactic(auto)]
 
 mod affine;
 mod arith;
-mod memref;
-mod scf;
-mod vector;
+mod gifts;
+mod operation;
 
 pub use affine::reduce_affine;
 pub use arith::reduce_arith;
-pub use memref::reduce_memref;
-pub use scf::reduce_scf;
-pub use vector::reduce_vector;
+pub use operation::reduce_operation;

@@ -16,8 +16,8 @@ use Rattle.av_tree.specs.declared.table.Name.TheVariants as name
 use Rattle.av_tree.specs.declared.table.Rule.TheVariants as rule
 use Rattle.av_tree.specs.declared.table.functions.FunctionName.TheVariants as functions_name
 use Rattle.av_tree.specs.declared.table.arith.ArithRule.TheVariants as arith_rule
-use Rattle.av_tree.specs.declared.table.affine.AffineRule.TheVariants as affine_rule
 use Rattle.av_derive.specs.ClassOf.{keywords}
+use Rattle.av_dialects.specs.Rows.{forms, names}
 use Rattle.av_printer.specs.Pieces.{Piece, joined, token, sign as sign_pieces}
 use Rattle.av_printer.specs.Types.{type_pieces, type_step, layout_behind}
 use Rattle.av_print_laws.specs.Spacing as spacing
@@ -27,11 +27,11 @@ use Rattle.av_totree.specs.Types.{type_of, elem_name}
 use Rattle.av_program_laws.specs.Programs.{Subscript}
 use Rattle.av_program_laws.specs.Walks.{buffer}
 use Rattle.av_program_laws.specs.WrittenTrees.{entry, mark}
-use Rattle.av_read_laws.specs.Making.{Makes, nothing, by_sign, by_word, by_token, by_row}
+use Rattle.av_read_laws.specs.Making.{Makes, nothing, by_sign, by_word, by_row}
 use Rattle.av_output_laws.proofs.Parts.{made_integer, made_value, made_scalar, made_buffer, buffer_words, made_mark, class-elem}
 use Rattle.av_round_trip.proofs.Following.{followed, row, respelled, revalued}
 use Rattle.av_output_laws.proofs.Subscripts.{IsReadSubscript, made_subscripts}
-use Rattle.av_output_laws.proofs.Nodes.{layer, constant-is, binary-is, access_layer, load-is, store-is}
+use Rattle.av_output_laws.proofs.Nodes.{layer, access_layer, constant-row, load-row, store-row, sum-row}
 use Rattle.av_output_laws.proofs.ProgramWords.{plain_word, type_words, constant_words, sum_words, load_words, store_words}
 
 -- ---- types
@@ -71,23 +71,23 @@ store_made stored buffer text at number type =
 module _ {most : ℕ} where
   pub constant_form : (z : ℤ) → unsigned_abs z < 2 ^ 127
       → Makes most (Form ∷ []) (constant_words z) (value.Node (constant_made z) ∷ [])
-  unfolding replaced on_top keywords
+  unfolding replaced on_top keywords forms names
   constant_form z h =
-      row (rule.Arith arith_rule.ArithConstant) refl tt
+      row (rule.Operation 3) refl tt
       (by_word refl (row (rule.Arith arith_rule.NumberConstant) refl tt
       (made_integer z h (by_sign refl (made_scalar (codes "i32") refl nothing))) refl))
-      (ap (λ n. Some (value.Node n ∷ [])) (constant-is z i32))
+      (constant-row z i32)
 
   sum_here : (left right : List ℕ) (elem : Elem)
       → Makes most (Form ∷ []) (sum_words left right (plain_word (elem_name elem) ∷ []))
       (value.Node (sum_made left right (type_of (Scalar elem))) ∷ [])
-  unfolding replaced on_top keywords
+  unfolding replaced on_top keywords forms names
   sum_here left right elem =
-      row (rule.Arith arith_rule.ArithOverflowing) refl tt
-      (by_token refl (made_value left (by_sign refl (made_value right
+      row (rule.Operation 4) refl tt
+      (by_word refl (made_value left (by_sign refl (made_value right
       (by_row {ws = []} (rule.Arith arith_rule.NoOverflow) refl tt nothing refl
       (by_sign refl (made_scalar (elem_name elem) (class-elem elem) nothing)))))))
-      (ap (λ n. Some (value.Node n ∷ [])) (binary-is (codes "arith.addi") left right (type_of (Scalar elem))))
+      (sum-row left right (type_of (Scalar elem)))
 
   pub sum_form : (left right : List ℕ) (t : Ty) (elem : Elem) → t ≡ Scalar elem
       → Makes most (Form ∷ []) (sum_words left right (type_words t))
@@ -99,13 +99,13 @@ module _ {most : ℕ} where
   module _ (buffer_name text : List ℕ) (at : Subscript) (number size : ℕ) (two : 2 ≤ most) (read : IsReadSubscript at) (few : number < 2 ^ 64) (small : size < 2 ^ 31) where
     load_here : Makes most (Form ∷ []) (load_words buffer_name text at number (buffer_words size))
         (value.Node (load_made buffer_name text at number (type_of (buffer size))) ∷ [])
-    unfolding replaced on_top keywords
+    unfolding replaced on_top keywords forms names
     load_here =
-        row (rule.Affine affine_rule.AffineLoad) refl tt
+        row (rule.Operation 37) refl tt
         (by_word refl (made_value buffer_name (by_sign refl
         (followed (made_subscripts text at two read)
         (by_sign refl (made_mark (codes "affvec.of") number refl few (by_sign refl (made_buffer size (omega arith) nothing))))))))
-        (ap (λ n. Some (value.Node n ∷ [])) (load-is buffer_name text at (mark (codes "affvec.of") number) (type_of (buffer size))))
+        (load-row buffer_name text at (mark (codes "affvec.of") number) (type_of (buffer size)))
 
     pub load_form : (t : Ty) → t ≡ buffer size → Makes most (Form ∷ []) (load_words buffer_name text at number (type_words t))
         (value.Node (load_made buffer_name text at number (type_of t)) ∷ [])
@@ -115,13 +115,13 @@ module _ {most : ℕ} where
 
     store_here : (stored : List ℕ) → Makes most (Form ∷ []) (store_words stored buffer_name text at number (buffer_words size))
         (value.Node (store_made stored buffer_name text at number (type_of (buffer size))) ∷ [])
-    unfolding replaced on_top keywords
+    unfolding replaced on_top keywords forms names
     store_here stored =
-        row (rule.Affine affine_rule.AffineStore) refl tt
+        row (rule.Operation 38) refl tt
         (by_word refl (made_value stored (by_sign refl (made_value buffer_name (by_sign refl
         (followed (made_subscripts text at two read)
         (by_sign refl (made_mark (codes "affvec.of") number refl few (by_sign refl (made_buffer size (omega arith) nothing))))))))))
-        (ap (λ n. Some (value.Node n ∷ [])) (store-is stored buffer_name text at (mark (codes "affvec.of") number) (type_of (buffer size))))
+        (store-row stored buffer_name text at (mark (codes "affvec.of") number) (type_of (buffer size)))
 
     pub store_form : (stored : List ℕ) (t : Ty) → t ≡ buffer size → Makes most (Form ∷ []) (store_words stored buffer_name text at number (type_words t))
         (value.Node (store_made stored buffer_name text at number (type_of t)) ∷ [])

@@ -18,7 +18,7 @@ use Rattle.av_derive.specs.ClassOf.{keywords}
 use Rattle.av_values.specs.Sorts.{on_top, replaced}
 use Rattle.av_values.specs.Nodes.{plain}
 use Rattle.av_values.specs.Forms.{completed, is_none, second_ended}
-use Rattle.av_values.specs.Loops.{ended, ends_region, terminated}
+use Rattle.av_values.specs.Loops.{ended, ends_region}
 use Rattle.av_values.specs.declared.value.Value.TheVariants as value
 use Rattle.av_read_laws.specs.Making.{Word, Makes, nothing, by_sign, by_token, by_row}
 use Rattle.av_output_laws.proofs.Parts.{sign_word}
@@ -118,7 +118,7 @@ open_at [] i h = refl
 open_at (node ∷ nodes) zero h = h.0
 open_at (node ∷ nodes) (suc i) h = open_at nodes i h.1
 
-pub terminated-open : (nodes : List Node) → AreOpen nodes → terminated nodes ≡ nodes ++ plain (codes "affine.yield") 0 ∷ []
+pub terminated-open : (nodes : List Node) → AreOpen nodes → ended (codes "affine.yield") nodes ≡ nodes ++ plain (codes "affine.yield") 0 ∷ []
 unfolding ended
 terminated-open nodes h =
     ap (λ (b : Bool). if b then nodes else nodes ++ plain (codes "affine.yield") 0 ∷ []) (open_at nodes (length nodes - 1) h)

@@ -7,7 +7,8 @@ use Rattle.av_ir.specs.declared.ty.Ty.TheVariants.{Scalar}
 use Rattle.av_lex.specs.declared.token.Sign.TheVariants as sign
 use Rattle.av_tree.specs.declared.attribute.Named.{Named}
 use Rattle.av_tree.specs.declared.node.Node.{Node, Node-F, roll-Node}
-use Rattle.av_tree.specs.declared.node.Body.{Body, roll-Body}
+use Rattle.av_tree.specs.declared.node.Body.{Body, Body-F, out-roll-Body, roll-Body}
+use Rattle.av_tree.specs.declared.node.BodyArg.{BodyArg}
 use Rattle.av_tree.specs.declared.table.Symbol.TheVariants as symbol
 use Rattle.av_tree.specs.declared.table.Name.TheVariants as name
 use Rattle.av_tree.specs.declared.table.Rule.TheVariants as rule
@@ -17,9 +18,11 @@ use Rattle.av_tree.specs.declared.table.attributes.AttributeName.TheVariants as 
 use Rattle.av_tree.specs.declared.table.regions.RegionName.TheVariants as regions_name
 use Rattle.av_derive.specs.ClassOf.{keywords}
 use Rattle.av_values.specs.Sorts.{on_top, replaced}
-use Rattle.av_values.specs.Nodes.{with_property, with_operands}
-use Rattle.av_values.specs.Loops.{bound_of_number, segments, step, terminated, with_pairs, with_carried}
-use Rattle.av_values.specs.Operations.{loop_of, with_region}
+use Rattle.av_dialects.specs.Rows.{forms as row_forms, names, results}
+use Rattle.av_values.specs.Gifts.{first_numbers, sizes_entry, with_args_before}
+use Rattle.av_values.specs.Loops.{bound_of_number, counter, ended, step, with_pairs}
+use Rattle.av_values.specs.Made.{by_row as by_row_of}
+use Rattle.av_values.proofs.Entries.{sizes-first}
 use Rattle.av_values.specs.declared.value.Value.TheVariants as value
 use Rattle.av_printer.specs.declared.form.Form.TheVariants as forms
 use Rattle.av_totree.specs.Constants.{signed_low}
@@ -33,7 +36,7 @@ use Rattle.av_program_laws.specs.Sound.{AreSoundLines, IsSoundStep, AreSoundStep
 use Rattle.av_read_laws.specs.Making.{Word, Makes, nothing, by_sign, by_word, by_token, by_row}
 use Rattle.av_output_laws.proofs.Parts.{sign_word, number_words, mark_words, made_integer, made_mark}
 use Rattle.av_round_trip.proofs.Following.{followed, row, closed, respelled, revalued}
-use Rattle.av_output_laws.proofs.Nodes.{bare, via, plain-is}
+use Rattle.av_output_laws.proofs.Nodes.{bare}
 use Rattle.av_output_laws.proofs.ProgramWords.{loop_words, lines_words, step_words, steps_words}
 use Rattle.av_output_laws.proofs.Forms.{Form, constant_form}
 use Rattle.av_output_laws.proofs.Bounds.{small_constant, HasSmall, HasFewLoops, small-inside, small-step, few-step, number-step, number-steps, lines-before}
@@ -70,31 +73,32 @@ loop_layer name lower upper nodes attrs = record {
   out_types = [];
 }
 
-abbrev no_more : Node-F Body Node → Node-F Body Node
-no_more x = record x { operands = x.operands ++ []; in_types = x.in_types ++ [] }
+-- the arguments of the region, and the numbers of operands of its bounds
+region-args : (args : List BodyArg) (nodes : List Node)
+    → with_args_before args (roll-Body (record { args = []; nodes = nodes }) ∷ []) ≡ roll-Body (record { args = args ++ []; nodes = nodes }) ∷ []
+region-args args nodes =
+    ap (λ (b : Body-F Body Node). roll-Body (record b { args = args ++ b.args }) ∷ []) (out-roll-Body (record { args = []; nodes = nodes }))
 
-abbrev more_property : Named → Node-F Body Node → Node-F Body Node
-more_property e x = record x { properties = x.properties ++ e ∷ [] }
+all-args : (name : List ℕ) (nodes : List Node)
+    → with_args_before (counter name ∷ []) (with_args_before [] (roll-Body (record { args = []; nodes = nodes }) ∷ []))
+    ≡ roll-Body (record { args = argument name (Scalar Index) ∷ []; nodes = nodes }) ∷ []
+all-args name nodes = ap (with_args_before (counter name ∷ [])) (region-args [] nodes) ∙ region-args (counter name ∷ []) nodes
 
-abbrev none_carried : Node-F Body Node → Node-F Body Node
-none_carried x = record x { operands = x.operands ++ []; in_types = x.in_types ++ []; out_types = x.out_types ++ [] }
-
-loop_is : (name : List ℕ) (lower upper : ℤ) (nodes : List Node) (attrs : List Named)
-    → loop_of name (bound_of_number lower) (bound_of_number upper) (pos 1) (record { pairs = []; types = [] }) nodes attrs 0
-    ≡ roll-Node (loop_layer name lower upper (terminated (reverse nodes)) (reverse attrs))
-unfolding with_property with_operands with_pairs with_carried with_region
-loop_is name lower upper nodes attrs =
-    via (λ (x : Node-F Body Node). record x {
-      attrs = reverse attrs;
-      regions = roll-Body (record { args = argument name (Scalar Index) ∷ []; nodes = terminated (reverse nodes) }) ∷ [];
-    }) _
-    (via (more_property (entry (codes "operandSegmentSizes") (segments 0 0 0))) _
-    (via none_carried _
-    (via (more_property (entry (codes "step") (step (pos 1)))) _
-    (via (more_property (entry (codes "upperBoundMap") (bound_of_number upper).map)) _
-    (via no_more _
-    (via (more_property (entry (codes "lowerBoundMap") (bound_of_number lower).map)) _
-    (via no_more _ (plain-is (codes "affine.for")))))))))
+loop-row : (name : List ℕ) (lower upper : ℤ) (nodes : List Node) (attrs : List Named)
+    → by_row_of 31 0 (value.Text name ∷ value.MapUse (bound_of_number lower) ∷ value.MapUse (bound_of_number upper) ∷ value.Number (pos 1)
+    ∷ value.Carried (record { pairs = []; types = [] }) ∷ value.Nodes nodes ∷ value.Entries attrs ∷ [])
+    ≡ Some (value.Node (roll-Node (loop_layer name lower upper (ended (codes "affine.yield") (reverse nodes)) (reverse attrs))) ∷ [])
+unfolding row_forms names results replaced on_top with_pairs
+loop-row name lower upper nodes attrs =
+    let around : List Body → List ℤ → Node = λ bodies numbers. roll-Node (record (loop_layer name lower upper [] (reverse attrs)) {
+      properties = entry (codes "lowerBoundMap") (bound_of_number lower).map ∷ entry (codes "upperBoundMap") (bound_of_number upper).map
+          ∷ entry (codes "step") (step (pos 1)) ∷ sizes_entry (pos 0 ∷ numbers) ∷ [];
+      regions = bodies;
+    }) in
+    let given : List ℤ = first_numbers (sizes_entry (pos 0 ∷ pos 0 ∷ []) ∷ []) in
+    ap (λ bodies. Some (value.Node (around bodies given) ∷ [])) (all-args name (ended (codes "affine.yield") (reverse nodes)))
+    ∙ ap (λ numbers. Some (value.Node (around (roll-Body (record { args = argument name (Scalar Index) ∷ []; nodes = ended (codes "affine.yield") (reverse nodes) }) ∷ []) numbers) ∷ []))
+    (sizes-first (pos 0 ∷ pos 0 ∷ []) [])
 
 -- ---- steps
 module _ {most : ℕ} (two : 2 ≤ most) where
@@ -103,7 +107,7 @@ module _ {most : ℕ} (two : 2 ≤ most) where
       → Makes most (symbol.Rows (name.Region regions_name.Region) ∷ symbol.Rows (name.Attribute attributes_name.OptionalDictionary) ∷ [])
       (sign_word sign.OpenCurly ∷ (inside ++ (sign_word sign.CloseCurly ∷ mark_words (codes "affvec.loop") number)))
       (value.Nodes nodes ∷ value.Entries (mark (codes "affvec.loop") number) ∷ [])
-  unfolding keywords
+  unfolding keywords names
   body_words inside nodes number few made =
       respelled (ap (λ l. sign_word sign.OpenCurly ∷ l) (append_assoc inside (sign_word sign.CloseCurly ∷ []) (mark_words (codes "affvec.loop") number)))
       (followed (made_region made) (made_mark (codes "affvec.loop") number refl few nothing))
@@ -112,20 +116,20 @@ module _ {most : ℕ} (two : 2 ≤ most) where
   loop_around : (name : List ℕ) (lower upper : ℤ) (inside : List Word) (nodes : List Node) (number : ℕ)
       → unsigned_abs lower < 2 ^ 127 → unsigned_abs upper < 2 ^ 127 → number < 2 ^ 64 → Makes most (Operations ∷ []) inside (value.Nodes nodes ∷ [])
       → Makes most (Form ∷ []) (loop_words name lower upper inside number)
-      (value.Node (roll-Node (loop_layer name lower upper (terminated (reverse nodes)) (mark (codes "affvec.loop") number))) ∷ [])
-  unfolding replaced on_top keywords
+      (value.Node (roll-Node (loop_layer name lower upper (ended (codes "affine.yield") (reverse nodes)) (mark (codes "affvec.loop") number))) ∷ [])
+  unfolding replaced on_top keywords row_forms names
   loop_around name lower upper inside nodes number low high few made =
       let ending = by_row {ws = []} (rule.Affine affine_rule.NoStep) refl tt nothing refl
       (by_row {ws = []} (rule.Affine affine_rule.NoIterArgs) refl tt nothing refl (body_words inside nodes number few made)) in
-      row (rule.Affine affine_rule.AffineFor) refl tt
+      row (rule.Operation 31) refl tt
       (by_word refl (by_token refl (by_sign refl (followed (lower_bound lower low) (by_word refl (followed (upper_bound upper high) ending))))))
-      (ap (λ n. Some (value.Node n ∷ [])) (loop_is name lower upper nodes (mark (codes "affvec.loop") number)))
+      (loop-row name lower upper nodes (mark (codes "affvec.loop") number))
 
   front-terminated : (lines : List Line) (place : Place)
-      → terminated (reverse (turned (front_nodes (next place) lines (inside place)))) ≡ line_nodes forms.Named (next place) lines (inside place)
+      → ended (codes "affine.yield") (reverse (turned (front_nodes (next place) lines (inside place)))) ≡ line_nodes forms.Named (next place) lines (inside place)
   front-terminated lines place =
       let front = front_nodes (next place) lines (inside place) in
-      ap terminated (reverse-turned front) ∙ terminated-open front (open_front (next place) lines (inside place))
+      ap (ended (codes "affine.yield")) (reverse-turned front) ∙ terminated-open front (open_front (next place) lines (inside place))
       ∙ line_nodes-front (next place) lines (inside place)
 
   loop_form : (lower upper : ℤ) (lines : List Line) (place : Place) (visible : List ℕ) → HasSmall place

@@ -11,6 +11,7 @@ use Rattle.av_tree.specs.declared.attribute.Named.{Named, Named-F, out-roll-Name
 use Rattle.av_tree.specs.declared.written.ExprText.{ExprText}
 use Rattle.av_tree.specs.declared.written.ExprText.TheVariants as expr
 use Rattle.av_tree.specs.declared.written.TypeText.TheVariants as text
+use Rattle.av_dialects.specs.Rows.{names}
 use Rattle.av_derive.specs.ClassOf.{keywords}
 use Rattle.av_printer.specs.Pieces.{Piece, space, token, sign, plain, spaced}
 use Rattle.av_printer.specs.Expressions.{Part, number, side, sum, part_of, expression}
@@ -66,7 +67,7 @@ abbrev signs_among : List Piece → ℕ
 signs_among ps = count_by (λ (word : Word). is_calculation (class_of_word word)) (words_of ps)
 
 few_signs : (at : Subscript) → signs_among (result_pieces at) ≤ 2
-unfolding keywords words_of space token sign number
+unfolding keywords names words_of space token sign number
 few_signs (fixed (pos n)) = let e : signs_among (result_pieces (fixed (pos n))) ≡ 0 = digits_none (decimal n) 0 in omega arith
 few_signs (fixed (negsuc n)) = let e : signs_among (result_pieces (fixed (negsuc n))) ≡ 1 = digits_none (decimal (suc n)) 1 in omega arith
 few_signs variable = omega arith

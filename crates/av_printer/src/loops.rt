@@ -1,15 +1,17 @@
 //! The parts of loops: counters, bounds, steps and carried values.
 ghost use Rattle.std.specs.Prelude.{◌≡◌, ◌++◌, Some, option_copied, IfOk};
+ghost use Rattle.av_dialects.specs.declared.item.Item.TheVariants.{LowerBound, UpperBound};
 ghost use Rattle.av_printer.specs.Pieces.{spelt};
-ghost use Rattle.av_printer.specs.Operations.{step_of, variable, step_behind, carried_pair, carried_in_round, carried_behind};
-ghost use Rattle.av_printer.specs.Parts.{alias_bound, bound_of};
+ghost use Rattle.av_printer.specs.Operations.{head_of, step_of, variable, step_behind, carried_pair, carried_in_round, carried_behind};
+ghost use Rattle.av_printer.specs.Parts.{alias_bound, bound_of, item_pieces};
 
+use crate::entries::property;
 use crate::generic::{print_known_in_round, print_values_in_round};
 use crate::slices::behind;
 use crate::subscripts::print_bound;
 use crate::writer::Writer;
 use av_affine::Text;
-use av_tree::{Attr, BodyArg, TypeText};
+use av_tree::{Attr, BodyArg, Node, TypeText};
 use std::alloc::AllocError;
 
 #[tactic(auto, using(crate::proofs::Steps::steps, crate::proofs::OperationSteps::behind_steps))]
@@ -23,9 +25,35 @@ pub(crate) fn print_variable(out: &mut Writer, args: &[BodyArg]) -> Result<(), A
     Ok(())
 }
 
-/// A bound, lower or upper.
+#[tactic(auto, using(crate::proofs::Steps::steps))]
+pub(crate) fn print_lower_bound(
+    out: &mut Writer,
+    node: &Node,
+    operands: &[Text],
+) -> Result<(), AllocError>
+    ensures { IfOk result (λ _. out.new ≡ out.old ++ spelt (item_pieces (head_of node.now) LowerBound operands.now)) }
+{
+    let map = property(node.properties.as_slice(), b"lowerBoundMap");
+    print_bound_of(out, true, map, operands)?;
+    Ok(())
+}
+
+#[tactic(auto, using(crate::proofs::Steps::steps))]
+pub(crate) fn print_upper_bound(
+    out: &mut Writer,
+    node: &Node,
+    operands: &[Text],
+) -> Result<(), AllocError>
+    ensures { IfOk result (λ _. out.new ≡ out.old ++ spelt (item_pieces (head_of node.now) UpperBound operands.now)) }
+{
+    let map = property(node.properties.as_slice(), b"upperBoundMap");
+    print_bound_of(out, false, map, operands)?;
+    Ok(())
+}
+
+// A bound, lower or upper.
 #[tactic(auto, using(crate::proofs::Steps::steps, crate::proofs::PartSteps::bound_of_steps))]
-pub(crate) fn print_bound_of(
+fn print_bound_of(
     out: &mut Writer,
     lower: bool,
     attr: Option<&Attr>,

@@ -6,11 +6,13 @@ ghost use Rattle.av_printer.specs.Parts.{lead_pieces, item_pieces, part_pieces, 
 
 use crate::entries::{arguments, map_of, property};
 use crate::generic::{print_marks, print_values};
-use crate::loops::{print_bound_of, print_carried, print_step_of, print_variable};
+use crate::loops::{
+    print_carried, print_lower_bound, print_step_of, print_upper_bound, print_variable,
+};
 use crate::operands::{print_buffer, print_element, print_more, print_values_behind};
 use crate::placed_types::{print_choice_types, print_type_at, print_written_results};
 use crate::properties::{
-    print_angled, print_applied, print_array_numbers, print_constant, print_flags, print_word,
+    print_angled, print_applied, print_constant, print_flags, print_numbers, print_word,
 };
 use crate::shares::{before_regions, behind_regions, shared};
 use crate::subscripts::print_first;
@@ -131,10 +133,7 @@ fn print_item(
         Item::ChoiceTypes => print_choice_types(out, node.in_types.as_slice())?,
         Item::Word(key) => print_word(out, property(properties, name_of(key).as_bytes()))?,
         Item::Angled(key) => print_angled(out, property(properties, name_of(key).as_bytes()))?,
-        Item::Numbers(key) => print_array_numbers(
-            out,
-            property(properties, name_of(key).as_bytes()),
-        )?,
+        Item::Numbers(key) => print_numbers(out, property(properties, name_of(key).as_bytes()))?,
         Item::Overflow => print_flags(out, property(properties, b"overflowFlags"))?,
         Item::Marks => print_marks(out, node.attrs.as_slice())?,
         Item::Constant => print_constant(out, property(properties, b"value"))?,
@@ -142,18 +141,8 @@ fn print_item(
         Item::Set => print_applied(out, property(properties, b"condition"), operands)?,
         Item::Access => print_buffer(out, map_of(property(properties, b"map")), operands)?,
         Item::Counter => print_variable(out, arguments(node))?,
-        Item::LowerBound => print_bound_of(
-            out,
-            true,
-            property(properties, b"lowerBoundMap"),
-            operands,
-        )?,
-        Item::UpperBound => print_bound_of(
-            out,
-            false,
-            property(properties, b"upperBoundMap"),
-            operands,
-        )?,
+        Item::LowerBound => print_lower_bound(out, node, operands)?,
+        Item::UpperBound => print_upper_bound(out, node, operands)?,
         Item::Step => print_step_of(out, property(properties, b"step"))?,
         Item::Carried => print_carried(out, arguments(node), operands, outputs)?,
         Item::ResultTypes => print_written_results(out, outputs)?,

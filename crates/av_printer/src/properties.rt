@@ -174,7 +174,7 @@ pub(crate) fn print_constant(out: &mut Writer, attr: Option<&Attr>) -> Result<()
 
 /// The numbers of an array, in square brackets.
 #[tactic(auto, using(crate::proofs::Steps::steps, crate::proofs::PartSteps::number_steps))]
-pub(crate) fn print_array_numbers(out: &mut Writer, attr: Option<&Attr>) -> Result<(), AllocError>
+pub(crate) fn print_numbers(out: &mut Writer, attr: Option<&Attr>) -> Result<(), AllocError>
     ensures { IfOk result (λ _. out.new ≡ out.old ++ spelt (numbers (option_copied attr.entry))) }
 {
     match attr {

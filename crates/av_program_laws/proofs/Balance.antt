@@ -1,6 +1,6 @@
 -- Pieces by their brackets: how many they open, and how deep they stand.
 use Rattle.std.proofs.Common.{◌≡◌, ℕ, ◌+◌, ◌-◌, ◌≤◌, cond, List, [], ◌∷◌, ◌++◌, map, refl, ◌∙◌, ap, subst, sym, arith}
-use Rattle.std.specs.Prelude.{nat_eq, Option, Some, None}
+use Rattle.std.specs.Prelude.{nat_eq}
 use Rattle.std.specs.List.{list_all}
 use Rattle.std.specs.Char.{is_ascii_digit}
 use Rattle.av_lex.specs.declared.token.Kind.{Kind}
@@ -12,9 +12,9 @@ use Rattle.av_tree.specs.declared.class.Class.{Class}
 use Rattle.av_tree.specs.declared.class.Class.TheVariants as class
 use Rattle.av_tree.specs.declared.class.Bracket.{Bracket}
 use Rattle.av_tree.specs.declared.class.Bracket.TheVariants as bracket
-use Rattle.av_tree.specs.declared.class.Keyword.{Keyword}
 use Rattle.av_tree.specs.Classes.{bracket_of}
-use Rattle.av_derive.specs.ClassOf.{class_of, class_of_keyword, class_of_hash, keyword_of, is_scalar, spells_word}
+use Rattle.av_derive.specs.ClassOf.{class_of, class_of_hash, keyword_of, spells_word}
+use Rattle.av_derive.proofs.Keywords.{by-keyword}
 use Rattle.av_derive.specs.Derivation.{opened, WithinBrackets}
 use Rattle.av_printer.specs.Pieces.{Piece, blank, line, word, space, new_line, token, sign, plain, spaced, comma, colon, commas, behind, joined, in_round, in_square}
 use Rattle.av_print_laws.specs.Spacing.{words_of}
@@ -153,12 +153,8 @@ pub square : {j : ℕ} {ps : List Piece} → Moves j 0 ps → Moves (j + 1) 0 (i
 square {j} {ps} m = pair_of j ps OpenSquare CloseSquare refl refl m
 
 -- ---- words without a bracket
-keyword-none : (o : Option Keyword) (text : List ℕ) → bracket_of (class_of_keyword o text) ≡ bracket.None
-keyword-none (Some keyword) text = refl
-keyword-none None text = either (λ (c : Class). bracket_of c ≡ bracket.None) (is_scalar text) class.Scalar class.OtherWord (λ b. refl) (λ b. refl)
-
 pub plain_moves : (k : ℕ) (text : List ℕ) → Moves k 0 (plain text)
-plain_moves k text = one k kinds.Word text (keyword-none (keyword_of text) text)
+plain_moves k text = one k kinds.Word text (by-keyword (λ c. bracket_of c ≡ bracket.None) (λ keyword. refl) refl refl (keyword_of text) text)
 
 pub digits_moves : (k : ℕ) (text : List ℕ) → Moves k 0 (token kinds.Number text)
 digits_moves k text =

@@ -32,15 +32,13 @@ use Rattle.av_tree.specs.declared.table.arith.ArithRule.{ArithRule}
 use Rattle.av_tree.specs.declared.table.arith.ArithRule.TheVariants as arith_rule
 use Rattle.av_tree.specs.declared.table.affine.AffineRule.{AffineRule}
 use Rattle.av_tree.specs.declared.table.affine.AffineRule.TheVariants as affine
-use Rattle.av_tree.specs.declared.table.memref.MemRefRule.{MemRefRule}
-use Rattle.av_tree.specs.declared.table.memref.MemRefRule.TheVariants as memrefs
-use Rattle.av_tree.specs.declared.table.scf.ScfRule.{ScfRule}
-use Rattle.av_tree.specs.declared.table.scf.ScfRule.TheVariants as scfs
-use Rattle.av_tree.specs.declared.table.vector.VectorRule.{VectorRule}
-use Rattle.av_tree.specs.declared.table.vector.VectorRule.TheVariants as vectors
 use Rattle.av_tree.specs.declared.table.subscripts.SubscriptRule.{SubscriptRule}
 use Rattle.av_tree.specs.declared.table.subscripts.SubscriptRule.TheVariants as subscripts
 use Rattle.av_tree.specs.declared.table.subscripts.SubscriptName.TheVariants as subscripts_name
+use Rattle.std.specs.List.{list_all}
+use Rattle.av_dialects.specs.Rows.{Part, forms}
+use Rattle.av_tree.specs.Forms.{form_symbols}
+use Rattle.av_tree.proofs.Forms.{of-form}
 use Rattle.av_tree.specs.Table.{symbols_of, name_of}
 use Rattle.av_tree.specs.Signs.{begins_expression, counts_sign}
 use Rattle.av_read_laws.specs.Making.{is_calculation}
@@ -137,27 +135,23 @@ fair-value values.NamedValue = refl
 fair-value _ = refl
 
 fair-arith : (r : ArithRule) → IsTrue (is_fair (rule.Arith r))
-fair-arith arith_rule.ArithConstant = refl
+fair-arith arith_rule.BoolConstant = refl
 fair-arith _ = refl
 
 fair-affine : (r : AffineRule) → IsTrue (is_fair (rule.Affine r))
-fair-affine affine.AffineFor = refl
+fair-affine affine.GreatestOf = refl
 fair-affine _ = refl
 
 fair-subscript : (r : SubscriptRule) → IsTrue (is_fair (rule.Subscript r))
 fair-subscript subscripts.NoSubscripts = refl
 fair-subscript _ = refl
 
-fair-memref : (r : MemRefRule) → IsTrue (is_fair (rule.MemRef r))
-fair-memref memrefs.MemRefLoad = refl
-fair-memref _ = refl
+abbrev is_fair_form : List Part → Bool
+is_fair_form ps = nat_le 0 (0 + asked (form_symbols ps)) && (all_outer (form_symbols ps) && true)
 
-fair-scf : (r : ScfRule) → IsTrue (is_fair (rule.Scf r))
-fair-scf scfs.ScfFor = refl
-
-fair-vector : (r : VectorRule) → IsTrue (is_fair (rule.Vector r))
-fair-vector vectors.VectorLoad = refl
-fair-vector _ = refl
+fair-forms : IsTrue (list_all is_fair_form forms)
+unfolding forms
+fair-forms = refl
 
 pub fair : (r : Rule) → IsTrue (is_fair r)
 fair (rule.File r) = fair-file r
@@ -171,6 +165,4 @@ fair (rule.Value r) = fair-value r
 fair (rule.Arith r) = fair-arith r
 fair (rule.Affine r) = fair-affine r
 fair (rule.Subscript r) = fair-subscript r
-fair (rule.MemRef r) = fair-memref r
-fair (rule.Scf r) = fair-scf r
-fair (rule.Vector r) = fair-vector r
+fair (rule.Operation n) = of-form is_fair_form refl fair-forms n

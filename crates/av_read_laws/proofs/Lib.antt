@@ -3,6 +3,7 @@ pub mod Signs
 pub mod Nodes
 pub mod Values
 pub mod Forms
+pub mod Gifts
 pub mod Rows
 pub mod Again
 pub mod Example

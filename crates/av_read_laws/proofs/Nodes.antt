@@ -2,25 +2,18 @@
 use Rattle.std.proofs.Common.{◌≡◌, ℕ, ◌-◌, List, [], ◌∷◌, ◌++◌, length, map, reverse, refl, sym, ap, ◌∙◌}
 use Rattle.std.proofs.lemmas.List.{length-map, map-append, reverse-append}
 use Rattle.std.proofs.lemmas.Option.{slice_get-map}
-use Rattle.std.specs.Prelude.{ℤ, codes, true, false, Bool, if◌then◌else◌, Option, Some, None, option_map, slice_get}
+use Rattle.std.specs.Prelude.{codes, true, false, Bool, if◌then◌else◌, Option, Some, None, option_map, slice_get}
 use Rattle.std.specs.Option.{option_map_or}
 use Rattle.std.specs.Str.{bytes_eq}
 use Rattle.av_tree.specs.declared.node.Node.{Node, Node-F, fold-roll-Node, fold_out-Node, out-Node, roll-Node, out-roll-Node}
 use Rattle.av_tree.specs.declared.node.Body.{Body, fold-roll-Body, fold_out-Body, out-Body, out-roll-Body, roll-Body}
 use Rattle.av_tree.specs.declared.node.BodyArg.{BodyArg}
-use Rattle.av_tree.specs.declared.attribute.Attr.{Attr}
-use Rattle.av_tree.specs.declared.attribute.Attr.TheVariants as attr
 use Rattle.av_tree.specs.declared.attribute.Named.{Named}
 use Rattle.av_tree.specs.declared.written.TypeText.{TypeText}
 use Rattle.av_values.specs.declared.value.TypedValues.{TypedValues}
-use Rattle.av_values.specs.declared.value.Constant.{Constant}
-use Rattle.av_values.specs.declared.value.Carried.{Carried}
-use Rattle.av_values.specs.declared.value.Expression.{Expression}
-use Rattle.av_values.specs.declared.value.MapUse.{MapUse}
-use Rattle.av_values.specs.Accesses.{numbering}
-use Rattle.av_values.specs.Loops.{carried_lists, counter, ended, ends_region, has_end, step, with_bound, with_carried}
-use Rattle.av_values.specs.Nodes.{plain, entry, with_attrs, with_body, with_operand, with_operands, with_property, with_result, with_results}
-use Rattle.av_values.specs.Operations.{named, with_regions, module_of, is_module, root_of, function_of, name_of_end, terminator_of, constant_of, binary_of, with_region, with_buffer, with_unwritten_result, access_of, load_of, loop_of, store_of}
+use Rattle.av_values.specs.Loops.{ended, ends_region, has_end}
+use Rattle.av_values.specs.Nodes.{plain}
+use Rattle.av_values.specs.Operations.{named, with_regions, module_of, is_module, root_of, function_of, name_of_end, terminator_of}
 use Rattle.av_read_laws.specs.Places.{body_step, node_step, unplaced_node, unplaced_body}
 
 -- a layer without places
@@ -123,103 +116,6 @@ terminator-unplaced word values place =
     kept (λ x. record x { operands = reverse values.values; in_types = map (λ (type : TypeText). Some type) (reverse values.types) }) (λ x. refl) _ _
     (plain-unplaced (name_of_end word) place)
 
-pub constant-unplaced : (constant : Constant) (place : ℕ) → unplaced_node (constant_of constant place) ≡ constant_of constant 0
-constant-unplaced constant place =
-    kept (λ x. record x { properties = entry (codes "value") constant.value ∷ []; out_types = constant.ty ∷ [] }) (λ x. refl) _ _
-    (plain-unplaced (codes "arith.constant") place)
-
-pub binary-unplaced : (word left right : List ℕ) (properties : List Named) (type : TypeText) (place : ℕ)
-    → unplaced_node (binary_of word left right properties type place) ≡ binary_of word left right properties type 0
-binary-unplaced word left right properties type place =
-    let change : Node-F Body Node → Node-F Body Node = λ x. record x {
-      operands = left ∷ right ∷ [];
-      properties = reverse properties;
-      in_types = Some type ∷ Some type ∷ [];
-      out_types = Some type ∷ [];
-    } in
-    kept change (λ x. refl) _ _ (plain-unplaced word place)
-
--- ---- what changes an operation
-pub property-kept : (node later : Node) (name : List ℕ) (value : Attr) → unplaced_node node ≡ later
-    → unplaced_node (with_property node name value) ≡ with_property later name value
-unfolding with_property
-property-kept node later name value e = kept (λ x. record x { properties = x.properties ++ entry name value ∷ [] }) (λ x. refl) node later e
-
-pub operands-kept : (node later : Node) (values : List (List ℕ)) → unplaced_node node ≡ later
-    → unplaced_node (with_operands node values) ≡ with_operands later values
-unfolding with_operands
-operands-kept node later values e =
-    kept (λ x. record x { operands = x.operands ++ values; in_types = x.in_types ++ map (λ _. None) values }) (λ x. refl) node later e
-
-pub operand-kept : (node later : Node) (value : List ℕ) (type : Option TypeText) → unplaced_node node ≡ later
-    → unplaced_node (with_operand node value type) ≡ with_operand later value type
-unfolding with_operand
-operand-kept node later value type e =
-    kept (λ x. record x { operands = x.operands ++ value ∷ []; in_types = x.in_types ++ type ∷ [] }) (λ x. refl) node later e
-
-pub result-kept : (node later : Node) (type : Option TypeText) → unplaced_node node ≡ later
-    → unplaced_node (with_result node type) ≡ with_result later type
-unfolding with_result
-result-kept node later type e = kept (λ x. record x { out_types = x.out_types ++ type ∷ [] }) (λ x. refl) node later e
-
-pub results-kept : (node later : Node) (types : List TypeText) → unplaced_node node ≡ later
-    → unplaced_node (with_results node types) ≡ with_results later types
-unfolding with_results
-results-kept node later types e =
-    kept (λ x. record x { out_types = x.out_types ++ map (λ (type : TypeText). Some type) types }) (λ x. refl) node later e
-
-pub unwritten-kept : (node later : Node) → unplaced_node node ≡ later → unplaced_node (with_unwritten_result node) ≡ with_unwritten_result later
-unfolding with_unwritten_result
-unwritten-kept node later e = kept (λ x. record x { out_types = None ∷ [] }) (λ x. refl) node later e
-
-pub attrs-kept : (node later : Node) (attrs : List Named) → unplaced_node node ≡ later
-    → unplaced_node (with_attrs node attrs) ≡ with_attrs later attrs
-unfolding with_attrs
-attrs-kept node later attrs e = kept (λ x. record x { attrs = attrs }) (λ x. refl) node later e
-
-pub bound-kept : (node later : Node) (name : List ℕ) (bound : MapUse) → unplaced_node node ≡ later
-    → unplaced_node (with_bound node name bound) ≡ with_bound later name bound
-bound-kept node later name bound e = property-kept _ _ name bound.map (operands-kept _ _ bound.operands e)
-
-pub carried-kept : (node later : Node) (inits : List (List ℕ)) (types : List TypeText) → unplaced_node node ≡ later
-    → unplaced_node (with_carried node inits types) ≡ with_carried later inits types
-unfolding with_carried
-carried-kept node later inits types e =
-    let change : Node-F Body Node → Node-F Body Node = λ x. record x {
-      operands = x.operands ++ inits;
-      in_types = x.in_types ++ map (λ (type : TypeText). Some type) types;
-      out_types = x.out_types ++ map (λ (type : TypeText). Some type) types;
-    } in
-    kept change (λ x. refl) node later e
-
-buffer-kept : (node later : Node) (buffer : List ℕ) (type : TypeText) (attrs : List Named) → unplaced_node node ≡ later
-    → unplaced_node (with_buffer node buffer type attrs) ≡ with_buffer later buffer type attrs
-unfolding with_buffer
-buffer-kept node later buffer type attrs e =
-    let change : Node-F Body Node → Node-F Body Node = λ x. record x {
-      operands = x.operands ++ buffer ∷ [];
-      in_types = x.in_types ++ Some type ∷ [];
-      attrs = attrs;
-    } in
-    kept change (λ x. refl) node later e
-
-pub region-kept : (node later : Node) (attrs : List Named) (body after : Body) → unplaced_body body ≡ after → unplaced_node node ≡ later
-    → unplaced_node (with_region node attrs body) ≡ with_region later attrs after
-unfolding with_region
-region-kept node later attrs body after f e =
-    changed (λ x. record x { attrs = attrs; regions = body ∷ [] }) (λ x. record x { attrs = attrs; regions = unplaced_body body ∷ [] }) (λ x. refl) node
-    ∙ ap (λ (n : Node). roll-Node (record (out-Node n) { attrs = attrs; regions = unplaced_body body ∷ [] })) e
-    ∙ ap (λ (b : Body). roll-Node (record (out-Node later) { attrs = attrs; regions = b ∷ [] })) f
-
-pub body-kept : (node later : Node) (body after : Body) → unplaced_body body ≡ after → unplaced_node node ≡ later
-    → unplaced_node (with_body node body) ≡ with_body later after
-unfolding with_body
-body-kept node later body after f e =
-    changed (λ x. record x { regions = x.regions ++ body ∷ [] }) (λ x. record x { regions = x.regions ++ unplaced_body body ∷ [] })
-    (λ x. ap (λ (bodies : List Body). record x { place = 0; regions = bodies }) (map-append unplaced_body x.regions (body ∷ []))) node
-    ∙ ap (λ (n : Node). roll-Node (record (out-Node n) { regions = (out-Node n).regions ++ unplaced_body body ∷ [] })) e
-    ∙ ap (λ (b : Body). roll-Node (record (out-Node later) { regions = (out-Node later).regions ++ b ∷ [] })) f
-
 -- ---- the end of a region
 last-of : (o : Option Node) → option_map_or (λ (node : Node). ends_region (out-Node node).name) (option_map unplaced_node o) false
     ≡ option_map_or (λ (node : Node). ends_region (out-Node node).name) o false
@@ -249,38 +145,8 @@ ended-unplaced name nodes =
     end-or (has_end nodes) name nodes
     ∙ ap (λ (b : Bool). if b then map unplaced_node nodes else map unplaced_node nodes ++ plain name 0 ∷ []) (sym (end-unplaced nodes))
 
--- a region that ends with an operation of this name, its operations from the last to the first
+-- a region that ends with an operation of this name
 pub ended-body : (args : List BodyArg) (name : List ℕ) (nodes : List Node)
-    → unplaced_body (roll-Body (record { args = args; nodes = ended name (reverse nodes) }))
-    ≡ roll-Body (record { args = args; nodes = ended name (reverse (map unplaced_node nodes)) })
+    → unplaced_body (roll-Body (record { args = args; nodes = ended name nodes })) ≡ roll-Body (record { args = args; nodes = ended name (map unplaced_node nodes) })
 ended-body args name nodes =
-    unplaced-body args (ended name (reverse nodes))
-    ∙ ap (λ (ns : List Node). roll-Body (record { args = args; nodes = ns }))
-    (ended-unplaced name (reverse nodes) ∙ ap (ended name) (map-reverse unplaced_node nodes))
-
--- ---- operations of the Affine dialect
-pub loop-unplaced : (name : List ℕ) (lower upper : MapUse) (by : ℤ) (carried : Carried) (nodes : List Node) (attrs : List Named) (place : ℕ)
-    → unplaced_node (loop_of name lower upper by carried nodes attrs place) ≡ loop_of name lower upper by carried (map unplaced_node nodes) attrs 0
-loop-unplaced name lower upper by carried nodes attrs place =
-    let lists = carried_lists (reverse carried.pairs) carried.types in
-    let args = counter name ∷ lists.args in
-    region-kept _ _ (reverse attrs) _ _ (ended-body args (codes "affine.yield") nodes)
-    (property-kept _ _ (codes "operandSegmentSizes") _
-    (carried-kept _ _ lists.inits carried.types
-    (property-kept _ _ (codes "step") (step by)
-    (bound-kept _ _ (codes "upperBoundMap") upper (bound-kept _ _ (codes "lowerBoundMap") lower (plain-unplaced (codes "affine.for") place))))))
-
-access-kept : (node later : Node) (buffer : List ℕ) (subscripts : List Expression) (attrs : List Named) (type : TypeText) → unplaced_node node ≡ later
-    → unplaced_node (access_of node buffer subscripts attrs type) ≡ access_of later buffer subscripts attrs type
-access-kept node later buffer subscripts attrs type e =
-    let n = numbering (reverse subscripts) in
-    property-kept _ _ (codes "map") (attr.Map n.map) (operands-kept _ _ n.syms (operands-kept _ _ n.dims (buffer-kept _ _ buffer type (reverse attrs) e)))
-
-pub load-unplaced : (buffer : List ℕ) (subscripts : List Expression) (attrs : List Named) (type : TypeText) (place : ℕ)
-    → unplaced_node (load_of buffer subscripts attrs type place) ≡ load_of buffer subscripts attrs type 0
-load-unplaced buffer subscripts attrs type place = unwritten-kept _ _ (access-kept _ _ buffer subscripts attrs type (plain-unplaced (codes "affine.load") place))
-
-pub store-unplaced : (value buffer : List ℕ) (subscripts : List Expression) (attrs : List Named) (type : TypeText) (place : ℕ)
-    → unplaced_node (store_of value buffer subscripts attrs type place) ≡ store_of value buffer subscripts attrs type 0
-store-unplaced value buffer subscripts attrs type place =
-    access-kept _ _ buffer subscripts attrs type (operands-kept _ _ (value ∷ []) (plain-unplaced (codes "affine.store") place))
+    unplaced-body args (ended name nodes) ∙ ap (λ (ns : List Node). roll-Body (record { args = args; nodes = ns })) (ended-unplaced name nodes)

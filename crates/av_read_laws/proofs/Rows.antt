@@ -1,7 +1,7 @@
 -- What rows make doesn't depend on places, nor on what lies under the values.
 use Rattle.std.proofs.Common.{◌≡◌, ℕ, List, [], ◌∷◌, ◌++◌, map, reverse, refl, ap, ◌∙◌}
 use Rattle.std.proofs.lemmas.List.{map-append}
-use Rattle.std.specs.Prelude.{Some, codes, option_map}
+use Rattle.std.specs.Prelude.{Some, option_map}
 use Rattle.av_tree.specs.declared.node.Node.{Node}
 use Rattle.av_tree.specs.declared.node.Body.{Body, roll-Body}
 use Rattle.av_tree.specs.declared.table.Rule.{Rule}
@@ -26,12 +26,6 @@ use Rattle.av_tree.specs.declared.table.arith.ArithRule.{ArithRule}
 use Rattle.av_tree.specs.declared.table.arith.ArithRule.TheVariants as ariths
 use Rattle.av_tree.specs.declared.table.affine.AffineRule.{AffineRule}
 use Rattle.av_tree.specs.declared.table.affine.AffineRule.TheVariants as affines
-use Rattle.av_tree.specs.declared.table.memref.MemRefRule.{MemRefRule}
-use Rattle.av_tree.specs.declared.table.memref.MemRefRule.TheVariants as memrefs
-use Rattle.av_tree.specs.declared.table.scf.ScfRule.{ScfRule}
-use Rattle.av_tree.specs.declared.table.scf.ScfRule.TheVariants as scfs
-use Rattle.av_tree.specs.declared.table.vector.VectorRule.{VectorRule}
-use Rattle.av_tree.specs.declared.table.vector.VectorRule.TheVariants as vectors
 use Rattle.av_tree.specs.declared.table.subscripts.SubscriptRule.{SubscriptRule}
 use Rattle.av_tree.specs.declared.table.subscripts.SubscriptRule.TheVariants as subscripts
 use Rattle.av_tree.specs.rows.FileRows as file_rows
@@ -44,9 +38,6 @@ use Rattle.av_tree.specs.rows.MapRows as map_rows
 use Rattle.av_tree.specs.rows.ValueRows as value_rows
 use Rattle.av_tree.specs.rows.ArithRows as arith_rows
 use Rattle.av_tree.specs.rows.AffineRows as affine_rows
-use Rattle.av_tree.specs.rows.MemRefRows as memref_rows
-use Rattle.av_tree.specs.rows.ScfRows as scf_rows
-use Rattle.av_tree.specs.rows.VectorRows as vector_rows
 use Rattle.av_tree.specs.rows.SubscriptRows as subscript_rows
 use Rattle.av_blocks.specs.rows.FileRows as making_files
 use Rattle.av_blocks.specs.rows.FunctionRows as making_functions
@@ -58,9 +49,6 @@ use Rattle.av_parts.specs.rows.MapRows as making_maps
 use Rattle.av_parts.specs.rows.ValueRows as making_values
 use Rattle.av_operations.specs.rows.ArithRows as making_ariths
 use Rattle.av_operations.specs.rows.AffineRows as making_affines
-use Rattle.av_operations.specs.rows.MemRefRows as making_memrefs
-use Rattle.av_operations.specs.rows.ScfRows as making_scfs
-use Rattle.av_operations.specs.rows.VectorRows as making_vectors
 use Rattle.av_parts.specs.rows.SubscriptRows as making_subscripts
 use Rattle.av_values.specs.declared.value.Value.{Value}
 use Rattle.av_values.specs.Forms.{completed}
@@ -69,8 +57,9 @@ use Rattle.av_values.specs.Spellings.{unquoted}
 use Rattle.av_values.specs.Sorts.{All, sort_of, sorts_of}
 use Rattle.av_reader.specs.Building.{by_row}
 use Rattle.av_read_laws.specs.Places.{unplaced_body, unplaced_node}
-use Rattle.av_read_laws.proofs.Nodes.{map-reverse, unplaced-body, plain-unplaced, named-unplaced, result-kept, unwritten-kept, root-unplaced, module-unplaced, function-unplaced, terminator-unplaced, constant-unplaced, binary-unplaced, load-unplaced, loop-unplaced, store-unplaced}
-use Rattle.av_read_laws.proofs.Forms.{branch_of-unplaced, comparison-unplaced, completed-unplaced, conversion-unplaced, counted_loop-unplaced, element_load-unplaced, element_store-unplaced, extraction-unplaced, generic-unplaced, insertion-unplaced, map_operation-unplaced, mask-unplaced, masked_load-unplaced, masked_store-unplaced, reduction-unplaced, selection-unplaced, shuffle-unplaced, size_query-unplaced, vector_load-unplaced, vector_store-unplaced}
+use Rattle.av_read_laws.proofs.Nodes.{map-reverse, unplaced-body, named-unplaced, root-unplaced, module-unplaced, function-unplaced, terminator-unplaced}
+use Rattle.av_read_laws.proofs.Forms.{completed-unplaced, generic-unplaced}
+use Rattle.av_read_laws.proofs.Gifts.{operation-unplaced}
 use Rattle.av_read_laws.proofs.Values.{unplaced_value, unplaced_of, unplaced_all, replaced-under, replaced-unplaced}
 
 -- the operations after one, and it
@@ -132,12 +121,7 @@ made-generic r place parts = refl
 
 made-arith : (r : ArithRule) (place : ℕ) (parts : All (sorts_of (arith_rows.symbols_of r)))
     → unplaced_of (sort_of (arith_rows.name_of r)) (making_ariths.made r place parts) ≡ making_ariths.made r 0 (unplaced_all (sorts_of (arith_rows.symbols_of r)) parts)
-made-arith ariths.ArithConstant place (constant, _) = constant-unplaced constant place
-made-arith ariths.ArithOverflowing place (word, (left, (right, (properties, (type, _))))) = binary-unplaced word left right properties type place
-made-arith ariths.ArithBinary place (word, (left, (right, (type, _)))) = binary-unplaced word left right [] type place
-made-arith ariths.ArithCmpi place (word, (left, (right, (type, _)))) = comparison-unplaced word left right type place
-made-arith ariths.ArithSelect place (condition, (left, (right, (types, _)))) = selection-unplaced condition left right types place
-made-arith ariths.ArithCast place (word, (value, (from, (to, _)))) = conversion-unplaced word value from to place
+made-arith ariths.BoolConstant place parts = refl
 made-arith r place parts = refl
 
 made-type : (r : TypeRule) (parts : All (sorts_of (type_rows.symbols_of r)))
@@ -167,39 +151,8 @@ made-subscript r parts = refl
 
 made-affine : (r : AffineRule) (place : ℕ) (parts : All (sorts_of (affine_rows.symbols_of r)))
     → unplaced_of (sort_of (affine_rows.name_of r)) (making_affines.made r place parts) ≡ making_affines.made r 0 (unplaced_all (sorts_of (affine_rows.symbols_of r)) parts)
-made-affine affines.AffineFor place (name, (lower, (upper, (by, (carried, (nodes, (attrs, _))))))) = loop-unplaced name lower upper by carried nodes attrs place
-made-affine affines.AffineLoad place (buffer, (subscripts, (attrs, (type, _)))) = load-unplaced buffer subscripts attrs type place
-made-affine affines.AffineStore place (value, (buffer, (subscripts, (attrs, (type, _))))) = store-unplaced value buffer subscripts attrs type place
-made-affine affines.AffineIf place (set, (types, (nodes, (others, _)))) = branch_of-unplaced set types nodes others place
-made-affine affines.AffineMapOp place (word, (map_use, _)) = map_operation-unplaced word map_use place
+made-affine affines.GreatestOf place parts = refl
 made-affine r place parts = refl
-
-made-memref : (r : MemRefRule) (place : ℕ) (parts : All (sorts_of (memref_rows.symbols_of r)))
-    → unplaced_of (sort_of (memref_rows.name_of r)) (making_memrefs.made r place parts) ≡ making_memrefs.made r 0 (unplaced_all (sorts_of (memref_rows.symbols_of r)) parts)
-made-memref memrefs.MemRefLoad place (buffer, (indices, (attrs, (type, _)))) = element_load-unplaced buffer indices attrs type place
-made-memref memrefs.MemRefStore place (value, (buffer, (indices, (attrs, (type, _))))) = element_store-unplaced value buffer indices attrs type place
-made-memref memrefs.MemRefDim place (buffer, (number, (type, _))) = size_query-unplaced buffer number type place
-
-made-scf : (r : ScfRule) (place : ℕ) (parts : All (sorts_of (scf_rows.symbols_of r)))
-    → unplaced_of (sort_of (scf_rows.name_of r)) (making_scfs.made r place parts) ≡ making_scfs.made r 0 (unplaced_all (sorts_of (scf_rows.symbols_of r)) parts)
-made-scf scfs.ScfFor place (name, (lower, (upper, (by, (carried, (nodes, (attrs, _))))))) = counted_loop-unplaced name lower upper by carried nodes attrs place
-
-made-vector : (r : VectorRule) (place : ℕ) (parts : All (sorts_of (vector_rows.symbols_of r)))
-    → unplaced_of (sort_of (vector_rows.name_of r)) (making_vectors.made r place parts) ≡ making_vectors.made r 0 (unplaced_all (sorts_of (vector_rows.symbols_of r)) parts)
-made-vector vectors.VectorLoad place (buffer, (indices, (attrs, (type, (vector, _))))) = vector_load-unplaced buffer indices attrs type vector place
-made-vector vectors.VectorStore place (value, (buffer, (indices, (attrs, (type, (vector, _)))))) = vector_store-unplaced value buffer indices attrs type vector place
-made-vector vectors.VectorMaskedLoad place (buffer, (indices, (mask, (other, (attrs, (type, (mask_type, (other_type, (result, _))))))))) =
-    masked_load-unplaced buffer indices mask other attrs type mask_type other_type result place
-made-vector vectors.VectorMaskedStore place (buffer, (indices, (mask, (value, (attrs, (type, (mask_type, (vector, _)))))))) =
-    masked_store-unplaced buffer indices mask value attrs type mask_type vector place
-made-vector vectors.VectorBroadcast place (value, (from, (to, _))) = conversion-unplaced (codes "vector.broadcast") value from to place
-made-vector vectors.VectorCreateMask place (first, (others, (type, _))) = mask-unplaced first others type place
-made-vector vectors.VectorReduction place (word, (value, (accumulator, (vector, (result, _))))) = reduction-unplaced word value accumulator vector result place
-made-vector vectors.VectorExtract place (value, (numbers, (part, (vector, _)))) = extraction-unplaced value numbers part vector place
-made-vector vectors.VectorInsert place (value, (vector, (numbers, (value_type, (vector_type, _))))) = insertion-unplaced value vector numbers value_type vector_type place
-made-vector vectors.VectorShuffle place (left, (right, (numbers, (left_type, (right_type, _))))) = shuffle-unplaced left right numbers left_type right_type place
-made-vector vectors.VectorStep place (type, _) = result-kept _ _ (Some type) (plain-unplaced (codes "vector.step") place)
-made-vector vectors.VectorVscale place _ = unwritten-kept _ _ (plain-unplaced (codes "vector.vscale") place)
 
 -- a row does without places what it does with them
 pub row-unplaced : (r : Rule) (place : ℕ) (stack : List Value) → option_map (map unplaced_value) (by_row r place stack) ≡ by_row r 0 (map unplaced_value stack)
@@ -214,9 +167,7 @@ row-unplaced (rule.Value r) place stack = replaced-unplaced _ _ _ _ stack (λ pa
 row-unplaced (rule.Arith r) place stack = replaced-unplaced _ _ _ _ stack (λ parts. ap Some (made-arith r place parts))
 row-unplaced (rule.Affine r) place stack = replaced-unplaced _ _ _ _ stack (λ parts. ap Some (made-affine r place parts))
 row-unplaced (rule.Subscript r) place stack = replaced-unplaced _ _ _ _ stack (λ parts. ap Some (made-subscript r parts))
-row-unplaced (rule.MemRef r) place stack = replaced-unplaced _ _ _ _ stack (λ parts. ap Some (made-memref r place parts))
-row-unplaced (rule.Scf r) place stack = replaced-unplaced _ _ _ _ stack (λ parts. ap Some (made-scf r place parts))
-row-unplaced (rule.Vector r) place stack = replaced-unplaced _ _ _ _ stack (λ parts. ap Some (made-vector r place parts))
+row-unplaced (rule.Operation number) place stack = replaced-unplaced _ _ _ _ stack (λ parts. ap Some (operation-unplaced number place parts))
 
 -- and the same where more lies under the values
 pub row-under : (r : Rule) (place : ℕ) (stack under out : List Value) → by_row r place stack ≡ Some out → by_row r place (stack ++ under) ≡ Some (out ++ under)
@@ -231,6 +182,4 @@ row-under (rule.Value r) place stack under out e = replaced-under _ _ _ stack un
 row-under (rule.Arith r) place stack under out e = replaced-under _ _ _ stack under out e
 row-under (rule.Affine r) place stack under out e = replaced-under _ _ _ stack under out e
 row-under (rule.Subscript r) place stack under out e = replaced-under _ _ _ stack under out e
-row-under (rule.MemRef r) place stack under out e = replaced-under _ _ _ stack under out e
-row-under (rule.Scf r) place stack under out e = replaced-under _ _ _ stack under out e
-row-under (rule.Vector r) place stack under out e = replaced-under _ _ _ stack under out e
+row-under (rule.Operation number) place stack under out e = replaced-under _ _ _ stack under out e

@@ -31,10 +31,8 @@ use Rattle.av_parts.specs.rows.AttributeRows as attributes
 use Rattle.av_parts.specs.rows.MapRows as maps
 use Rattle.av_parts.specs.rows.ValueRows as values
 use Rattle.av_operations.specs.rows.ArithRows as ariths
+use Rattle.av_values.specs.Made as operations
 use Rattle.av_operations.specs.rows.AffineRows as affines
-use Rattle.av_operations.specs.rows.MemRefRows as memrefs
-use Rattle.av_operations.specs.rows.ScfRows as scfs
-use Rattle.av_operations.specs.rows.VectorRows as vectors
 use Rattle.av_parts.specs.rows.SubscriptRows as subscripts
 use Rattle.av_values.proofs.Replacing.{replaced-end, replaced-top}
 use Rattle.av_reader.proofs.Worked.{one-more}
@@ -114,9 +112,7 @@ makes (rule.Value r) place vs under = record { made = values.made r vs; replaces
 makes (rule.Arith r) place vs under = record { made = ariths.made r place vs; replaces = replaced-put _ _ _ vs _ under refl }
 makes (rule.Affine r) place vs under = record { made = affines.made r place vs; replaces = replaced-put _ _ _ vs _ under refl }
 makes (rule.Subscript r) place vs under = record { made = subscripts.made r vs; replaces = replaced-put _ _ _ vs _ under refl }
-makes (rule.MemRef r) place vs under = record { made = memrefs.made r place vs; replaces = replaced-put _ _ _ vs _ under refl }
-makes (rule.Scf r) place vs under = record { made = scfs.made r place vs; replaces = replaced-put _ _ _ vs _ under refl }
-makes (rule.Vector r) place vs under = record { made = vectors.made r place vs; replaces = replaced-put _ _ _ vs _ under refl }
+makes (rule.Operation number) place vs under = record { made = operations.made number place vs; replaces = replaced-put _ _ _ vs _ under refl }
 
 makes-name : (r : Rule) (x : Name) (place : ℕ) (vs : All (sorts_of (symbols_of r))) (under : List Value) → name_of r ≡ x → Makes r x place vs under
 makes-name r x place vs under e = subst (λ (y : Name). Makes r y place vs under) e (makes r place vs under)

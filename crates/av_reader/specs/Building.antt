@@ -10,6 +10,7 @@ use Rattle.av_derive.specs.declared.machine.Event.TheVariants as event
 use Rattle.av_derive.specs.ClassOf.{spelling_of}
 use Rattle.av_values.specs.declared.value.Value.{Value}
 use Rattle.av_values.specs.declared.value.Value.TheVariants as value
+use Rattle.av_values.specs.Made as made
 use Rattle.av_values.specs.Sorts.{only_tree}
 use Rattle.av_blocks.specs.rows.FileRows as files
 use Rattle.av_blocks.specs.rows.FunctionRows as functions
@@ -21,9 +22,6 @@ use Rattle.av_parts.specs.rows.MapRows as maps
 use Rattle.av_parts.specs.rows.ValueRows as values
 use Rattle.av_operations.specs.rows.ArithRows as ariths
 use Rattle.av_operations.specs.rows.AffineRows as affines
-use Rattle.av_operations.specs.rows.MemRefRows as memrefs
-use Rattle.av_operations.specs.rows.ScfRows as scfs
-use Rattle.av_operations.specs.rows.VectorRows as vectors
 use Rattle.av_parts.specs.rows.SubscriptRows as subscripts
 
 -- what a row whose first token stands at a place does to a stack of values
@@ -39,9 +37,7 @@ by_row (rule.Value r) place = values.by_row r
 by_row (rule.Arith r) place = ariths.by_row r place
 by_row (rule.Affine r) place = affines.by_row r place
 by_row (rule.Subscript r) place = subscripts.by_row r
-by_row (rule.MemRef r) place = memrefs.by_row r place
-by_row (rule.Scf r) place = scfs.by_row r place
-by_row (rule.Vector r) place = vectors.by_row r place
+by_row (rule.Operation number) place = made.by_row number place
 
 -- the place of the token of a number; 0 at the end of the tokens
 abbrev pub place_of : List Token → ℕ → ℕ

@@ -10,7 +10,7 @@ ghost use Rattle.av_reader.specs.Building.{by_event, by_row, place_of as the_pla
 use av_blocks::{reduce_file, reduce_function, reduce_generic, reduce_region};
 use av_derive::{Event, spelling_of};
 use av_lex::Token;
-use av_operations::{reduce_affine, reduce_arith, reduce_memref, reduce_scf, reduce_vector};
+use av_operations::{reduce_affine, reduce_arith, reduce_operation};
 use av_parts::{reduce_attribute, reduce_map, reduce_subscript, reduce_type, reduce_value};
 use av_tree::Tree;
 use av_tree::table::Rule;
@@ -72,8 +72,6 @@ fn reduce(stack: &mut Stack, rule: Rule, place: u32) -> Result<(), Fault>
         Rule::Arith(rule) => reduce_arith(stack, rule, place),
         Rule::Affine(rule) => reduce_affine(stack, rule, place),
         Rule::Subscript(rule) => reduce_subscript(stack, rule),
-        Rule::MemRef(rule) => reduce_memref(stack, rule, place),
-        Rule::Scf(rule) => reduce_scf(stack, rule, place),
-        Rule::Vector(rule) => reduce_vector(stack, rule, place),
+        Rule::Operation(number) => reduce_operation(stack, number, place),
     }
 }

@@ -12,6 +12,7 @@ use Rattle.av_tree.specs.declared.attribute.Attr as attrs
 use Rattle.av_tree.specs.declared.attribute.Named.{Named, Named-F, out-roll-Named}
 use Rattle.av_tree.specs.declared.node.Node.{Node, Node-F, roll-Node, out-roll-Node}
 use Rattle.av_tree.specs.declared.node.Body.{Body, Body-F, out-Body, roll-Body, out-roll-Body}
+use Rattle.av_dialects.specs.Rows.{names}
 use Rattle.av_derive.specs.ClassOf.{keywords}
 use Rattle.av_derive.specs.Derivation.{WithinBrackets}
 use Rattle.av_printer.specs.declared.form.Form.TheVariants as forms
@@ -118,7 +119,7 @@ unfolding spelling spelt margin space new_line token sign commas joined quoted_n
 spelled-is = ap spelt pieces-are
 
 brackets : WithinBrackets 192 0 (map class_of_word (words_of (pieces_of forms.Generic (example_module marks 7))))
-unfolding words_of keywords space new_line token sign commas joined quoted_name values_in_round values_pieces properties_behind common_regions label signature known_in_round known_types known_results one_or_several
+unfolding words_of keywords names space new_line token sign commas joined quoted_name values_in_round values_pieces properties_behind common_regions label signature known_in_round known_types known_results one_or_several
 brackets =
     subst (λ (ps : List Piece). WithinBrackets 192 0 (map class_of_word (words_of ps))) (sym pieces-are) (
       lit≤ tt,

@@ -1,11 +1,10 @@
 -- The expressions of maps and sets are read as they are printed.
-use Rattle.std.proofs.Common.{◌≡◌, ℕ, suc, ℤ, pos, negsuc, Bool, true, false, List, [], ◌∷◌, ◌++◌, refl, ap, arith, IsTrue, Option, Some, None, inl, inr}
-use Rattle.std.specs.Prelude.{◌⊎◌, if◌then◌else◌, decimal, reverse}
+use Rattle.std.proofs.Common.{◌≡◌, ℕ, suc, ℤ, pos, negsuc, List, [], ◌∷◌, ◌++◌, refl, ap, arith, IsTrue, Some, inl, inr}
+use Rattle.std.specs.Prelude.{◌⊎◌, decimal, reverse}
 use Rattle.av_lex.specs.declared.token.Kind.TheVariants as kinds
 use Rattle.av_lex.specs.declared.token.Sign.TheVariants as signs
 use Rattle.av_tree.specs.declared.class.Class.{Class}
 use Rattle.av_tree.specs.declared.class.Class.TheVariants as class
-use Rattle.av_tree.specs.declared.class.Keyword.{Keyword}
 use Rattle.av_tree.specs.declared.class.Keyword.TheVariants as key
 use Rattle.av_tree.specs.declared.table.Symbol.{Symbol}
 use Rattle.av_tree.specs.declared.table.Symbol.TheVariants as symbol
@@ -17,7 +16,8 @@ use Rattle.av_tree.specs.declared.table.maps.MapName.TheVariants as maps_name
 use Rattle.av_tree.specs.declared.table.maps.MapRule.TheVariants as maps_rule
 use Rattle.av_tree.specs.declared.written.ExprText.{ExprText, Name, Const, Neg}
 use Rattle.av_tree.specs.Classes.{is_word, fits_of}
-use Rattle.av_derive.specs.ClassOf.{keyword_of, is_scalar, class_of_keyword}
+use Rattle.av_derive.specs.ClassOf.{keyword_of}
+use Rattle.av_derive.proofs.Keywords.{by-keyword}
 use Rattle.av_printer.specs.Pieces.{Piece, sign, plain, spaced, in_round}
 use Rattle.av_printer.specs.Expressions.{number, expression}
 use Rattle.av_values.specs.Sorts.{on_top, replaced}
@@ -51,16 +51,8 @@ either_name : (c : Class) → IsTrue (is_word c) → IsTrue (fits_of test.Parame
 either_name (class.Word key.Division) h = inr refl
 either_name c h = inl h
 
-word_of_class : (scalar : Bool) → IsTrue (is_word (if scalar then class.Scalar else class.OtherWord))
-word_of_class true = refl
-word_of_class false = refl
-
-word_of_keyword : (found : Option Keyword) (text : List ℕ) → IsTrue (is_word (class_of_keyword found text))
-word_of_keyword (Some k) text = refl
-word_of_keyword None text = word_of_class (is_scalar text)
-
 pub word-fits : (text : List ℕ) → IsTrue (fits_of test.Word (class_of_word (kinds.Word, text)))
-word-fits text = word_of_keyword (keyword_of text) text
+word-fits text = by-keyword (λ c. IsTrue (is_word c)) (λ k. refl) refl refl (keyword_of text) text
 
 module _ {most : ℕ} where
   given_name_of : (text : List ℕ) → IsTrue (fits_of test.Parameter (class_of_word (kinds.Word, text))) ⊎ IsTrue (fits_of test.Division (class_of_word (kinds.Word, text)))

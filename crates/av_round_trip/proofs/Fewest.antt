@@ -35,12 +35,6 @@ use Rattle.av_tree.specs.declared.table.arith.ArithRule.{ArithRule}
 use Rattle.av_tree.specs.declared.table.arith.ArithRule.TheVariants as ariths
 use Rattle.av_tree.specs.declared.table.affine.AffineRule.{AffineRule}
 use Rattle.av_tree.specs.declared.table.affine.AffineRule.TheVariants as affines
-use Rattle.av_tree.specs.declared.table.memref.MemRefRule.{MemRefRule}
-use Rattle.av_tree.specs.declared.table.memref.MemRefRule.TheVariants as memrefs
-use Rattle.av_tree.specs.declared.table.scf.ScfRule.{ScfRule}
-use Rattle.av_tree.specs.declared.table.scf.ScfRule.TheVariants as scfs
-use Rattle.av_tree.specs.declared.table.vector.VectorRule.{VectorRule}
-use Rattle.av_tree.specs.declared.table.vector.VectorRule.TheVariants as vectors
 use Rattle.av_tree.specs.declared.table.subscripts.SubscriptRule.{SubscriptRule}
 use Rattle.av_tree.specs.declared.table.subscripts.SubscriptRule.TheVariants as subscripts
 use Rattle.av_tree.specs.Table.{symbols_of, name_of}
@@ -232,27 +226,16 @@ value-elsewhere values.NamedValue = refl
 value-elsewhere _ = refl
 
 arith-elsewhere : (r : ArithRule) → place_of (name_of (rule.Arith r)) ≡ elsewhere
-arith-elsewhere ariths.ArithConstant = refl
+arith-elsewhere ariths.BoolConstant = refl
 arith-elsewhere _ = refl
 
 affine-elsewhere : (r : AffineRule) → place_of (name_of (rule.Affine r)) ≡ elsewhere
-affine-elsewhere affines.AffineFor = refl
+affine-elsewhere affines.GreatestOf = refl
 affine-elsewhere _ = refl
 
 subscript-elsewhere : (r : SubscriptRule) → place_of (name_of (rule.Subscript r)) ≡ elsewhere
 subscript-elsewhere subscripts.NoSubscripts = refl
 subscript-elsewhere _ = refl
-
-memref-elsewhere : (r : MemRefRule) → place_of (name_of (rule.MemRef r)) ≡ elsewhere
-memref-elsewhere memrefs.MemRefLoad = refl
-memref-elsewhere _ = refl
-
-scf-elsewhere : (r : ScfRule) → place_of (name_of (rule.Scf r)) ≡ elsewhere
-scf-elsewhere scfs.ScfFor = refl
-
-vector-elsewhere : (r : VectorRule) → place_of (name_of (rule.Vector r)) ≡ elsewhere
-vector-elsewhere vectors.VectorLoad = refl
-vector-elsewhere _ = refl
 
 nothing_needed : (x : Name) (v : Value) (n : ℕ) → place_of x ≡ elsewhere → cost (place_of x) v ≤ n
 nothing_needed x v n is = subst (λ (p : Place). cost p v ≤ n) (sym is) (omega arith)
@@ -269,9 +252,7 @@ row_needs (rule.Value r) vs v e = nothing_needed (name_of (rule.Value r)) v (nee
 row_needs (rule.Arith r) vs v e = nothing_needed (name_of (rule.Arith r)) v (needs (symbols_of (rule.Arith r)) vs) (arith-elsewhere r)
 row_needs (rule.Affine r) vs v e = nothing_needed (name_of (rule.Affine r)) v (needs (symbols_of (rule.Affine r)) vs) (affine-elsewhere r)
 row_needs (rule.Subscript r) vs v e = nothing_needed (name_of (rule.Subscript r)) v (needs (symbols_of (rule.Subscript r)) vs) (subscript-elsewhere r)
-row_needs (rule.MemRef r) vs v e = nothing_needed (name_of (rule.MemRef r)) v (needs (symbols_of (rule.MemRef r)) vs) (memref-elsewhere r)
-row_needs (rule.Scf r) vs v e = nothing_needed (name_of (rule.Scf r)) v (needs (symbols_of (rule.Scf r)) vs) (scf-elsewhere r)
-row_needs (rule.Vector r) vs v e = nothing_needed (name_of (rule.Vector r)) v (needs (symbols_of (rule.Vector r)) vs) (vector-elsewhere r)
+row_needs (rule.Operation n) vs v e = nothing_needed (name_of (rule.Operation n)) v (needs (symbols_of (rule.Operation n)) vs) refl
 
 -- ---- all that rows make
 one_word : (w : Word) (ws : List Word) → brackets_in (w ∷ ws) ≡ cond (opens_round (class_of_word w)) 1 0 + brackets_in ws

@@ -1,5 +1,5 @@
 -- How many pairs of brackets are printed in an expression, by its parts.
-use Rattle.std.proofs.Common.{◌≡◌, ℕ, ◌+◌, ◌≤◌, ℤ, pos, negsuc, suc, Bool, true, false, cond, List, [], ◌∷◌, ◌++◌, refl, ap, ◌∙◌, arith, Option, Some, None, codes}
+use Rattle.std.proofs.Common.{◌≡◌, ℕ, ◌+◌, ◌≤◌, ℤ, pos, negsuc, suc, Bool, true, false, cond, List, [], ◌∷◌, ◌++◌, refl, ap, ◌∙◌, arith, codes}
 use Rattle.std.proofs.lemmas.List.Sums.{sum_by-append}
 use Rattle.std.proofs.lemmas.Bool.Decides.{nat_tests}
 use Rattle.std.specs.Prelude.{nat_lt, nat_eq, decimal, ◌==◌, if◌then◌else◌}
@@ -9,9 +9,9 @@ use Rattle.av_lex.specs.declared.token.Kind.TheVariants as kinds
 use Rattle.av_lex.specs.declared.token.Sign.{Sign}
 use Rattle.av_lex.specs.declared.token.Sign.TheVariants as signs
 use Rattle.av_tree.specs.declared.class.Class.TheVariants as class
-use Rattle.av_tree.specs.declared.class.Keyword.{Keyword}
 use Rattle.av_tree.specs.declared.written.ExprText.{ExprText, Name, Const, Neg}
-use Rattle.av_derive.specs.ClassOf.{keyword_of, is_scalar, class_of_keyword}
+use Rattle.av_derive.specs.ClassOf.{keyword_of}
+use Rattle.av_derive.proofs.Keywords.{by-keyword}
 use Rattle.av_printer.specs.Pieces.{Piece, space, sign, token, plain, spaced, in_round}
 use Rattle.av_printer.specs.Expressions.{Part as Printed, number, side, part_of, expression}
 use Rattle.av_printer.proofs.ExpressionSteps.{of-name, of-const, of-neg, of-add, of-sub, of-mul, of-mod, of-floor, of-ceil}
@@ -47,16 +47,8 @@ none-sign : (s : Sign) → opens_round (class.Sign s) ≡ false → brackets_of 
 unfolding words_of sign
 none-sign s other = ap (λ (b : Bool). 0 + cond b 1 0) other
 
-none-of_class : (scalar : Bool) → opens_round (if scalar then class.Scalar else class.OtherWord) ≡ false
-none-of_class true = refl
-none-of_class false = refl
-
-none-of_keyword : (found : Option Keyword) (text : List ℕ) → opens_round (class_of_keyword found text) ≡ false
-none-of_keyword (Some k) text = refl
-none-of_keyword None text = none-of_class (is_scalar text)
-
 none-word : (text : List ℕ) → brackets_of (plain text) ≡ 0
-none-word text = none-token kinds.Word text (none-of_keyword (keyword_of text) text)
+none-word text = none-token kinds.Word text (by-keyword (λ c. opens_round c ≡ false) (λ k. refl) refl refl (keyword_of text) text)
 
 none-of_zero : (zero : Bool) → opens_round (if zero then class.Zero else class.Positive) ≡ false
 none-of_zero true = refl

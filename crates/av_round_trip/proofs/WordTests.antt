@@ -12,7 +12,8 @@ use Rattle.av_tree.specs.declared.class.Keyword.{Keyword}
 use Rattle.av_tree.specs.declared.class.Keyword.TheVariants as key
 use Rattle.av_tree.specs.declared.table.Test.TheVariants as test
 use Rattle.av_tree.specs.Classes.{fits_of, is_entry_name}
-use Rattle.av_derive.specs.ClassOf.{keywords, found_in, is_scalar, class_of_keyword, spells_word}
+use Rattle.av_derive.specs.ClassOf.{keywords, found_in, class_of_keyword, spells_word}
+use Rattle.av_derive.proofs.Keywords.{by-no-keyword}
 use Rattle.av_print_laws.proofs.ExprParts.{either}
 use Rattle.av_read_laws.proofs.Signs.{both}
 use Rattle.av_read_laws.specs.Making.{class_of_word}
@@ -42,7 +43,7 @@ found_name entry text is names other =
 
 other_name : (entries : List (List ℕ × Keyword)) (text : List ℕ) → list_all names_entry entries ≡ true → bytes_eq text function_type ≡ false
     → IsName text (found_in entries text)
-other_name [] text all other = either (λ (c : Class). IsTrue (is_entry_name c)) (is_scalar text) class.Scalar class.OtherWord (λ b. refl) (λ b. refl)
+other_name [] text all other = by-no-keyword (λ (c : Class). IsTrue (is_entry_name c)) (λ number. refl) refl refl text
 other_name (entry ∷ rest) text all other =
     let each = both (names_entry entry) (list_all names_entry rest) all in
     either (IsName text) (bytes_eq text entry.0) (Some entry.1) (found_in rest text)

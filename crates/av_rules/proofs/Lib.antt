@@ -1,6 +1,12 @@
 pub mod Computed
 pub mod ComputedEdges
 pub mod ComputedRows
+pub mod ComputedScalars
+pub mod ComputedBuffers
+pub mod ComputedVectors
+pub mod ComputedRegions
+pub mod ComputedLoops
+pub mod ComputedTable
 pub mod Least
 pub mod Read
 pub mod Walk

@@ -24,7 +24,7 @@ use Rattle.av_tree.specs.declared.node.BodyArg.{BodyArg}
 use Rattle.av_tree.specs.declared.written.TypeText.{TypeText}
 use Rattle.av_types.specs.Texts.{is_type}
 use Rattle.av_types.specs.Relations.{element_of, is_index, is_memref, is_plain, is_truth, is_vector, rank_of, same_elements, same_sizes, same_type, stretches_to, truths_of}
-use Rattle.av_rules.specs.Counts.{is_in_place}
+use Rattle.av_rules.specs.Counts.{count_from, is_in_place}
 use Rattle.av_rules.specs.Entries.{entry_of, function_of, kept, numbers_of}
 use Rattle.av_rules.specs.Places.{Holder, Site, operand_types}
 use Rattle.av_rules.specs.Rows.{Row}
@@ -123,6 +123,7 @@ is_written_as (Some text) t = if_both same_type (spelled text) t
 abbrev pub writes_types : Row → Site → Bool
 writes_types row site =
     pointwise is_written_as (fields site.node).in_types (operand_types site)
+    && option_map_or (λ n. length (fields site.node).out_types == n) (count_from row site row.source) true
     && option_map_or (pointwise is_written_as (fields site.node).out_types) (result_types row site) true
 
 -- the types that an attribute has in it; those of a function type are its inputs and results

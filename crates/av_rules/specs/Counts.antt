@@ -69,10 +69,11 @@ count_from row site source.AllWritten = Some (length (fields site.node).out_type
 count_from row site source.Carried = carried_count row site
 count_from row site s = Some 1
 
--- so many are named, and no text names none
+-- so many are named, or, where their number isn't known, no more than there are operands; and no text names none
 abbrev pub has_results : Row → Site → Bool
 has_results row site =
-    option_map_or (λ n. count_in (fields site.node).results == n) (count_from row site row.source) true
+    option_map_or (λ n. count_in (fields site.node).results == n) (count_from row site row.source)
+    (nat_le (count_in (fields site.node).results) (operand_count site))
     && list_all (λ text. not (count_named text == 0)) (fields site.node).results
 
 -- ---- names

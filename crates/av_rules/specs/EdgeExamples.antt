@@ -4,11 +4,12 @@ use Rattle.std.specs.List.{range_with_len}
 use Rattle.av_tree.specs.declared.attribute.Alias.{Alias}
 use Rattle.av_tree.specs.declared.attribute.Attr.TheVariants as attr
 use Rattle.av_tree.specs.declared.attribute.Named.{Named}
-use Rattle.av_tree.specs.declared.node.Node.{Node}
+use Rattle.av_tree.specs.declared.node.Node.{Node, Node', end_of-Body}
 use Rattle.av_tree.specs.declared.node.Tree.{Tree}
 use Rattle.av_tree.specs.declared.written.ExprText.{ExprText}
 use Rattle.av_tree.specs.declared.written.ExprText.TheVariants as expr
 use Rattle.av_tree.specs.declared.written.SizeText.TheVariants as size
+use Rattle.av_tree.specs.declared.written.TypeText.{TypeText}
 use Rattle.av_tree.specs.declared.written.TypeText.TheVariants as type
 use Rattle.av_rules.specs.declared.mode.Mode.{Mode}
 use Rattle.av_rules.specs.declared.mode.Mode.TheVariants as mode
@@ -16,7 +17,7 @@ use Rattle.av_rules.specs.Examples.{IsRefused, IsTaken}
 use Rattle.av_rules.specs.Fails.{least}
 use Rattle.av_rules.specs.Limits.{is_small}
 use Rattle.av_rules.specs.Sites.{first_site}
-use Rattle.av_rules.specs.Trees.{add, apply, arg, body, buffer, constant, d0, entry, function, i32, i8, index, loop, loop_over, map_over, number, simple, terminator, tree_of, yield}
+use Rattle.av_rules.specs.Trees.{add, apply, arg, body, bound, buffer, constant, d0, entry, function, i32, i8, index, loop, loop_over, map_over, number, operation, region, simple, terminator, tree_of, yield}
 
 -- ---- limits
 -- a name of its own for each number
@@ -29,7 +30,7 @@ abbrev nest : ℕ → List Node
 nest zero = []
 nest (suc n) = loop_over (counter n) (number (pos 1) index) (pos 0 ∷ pos 0 ∷ pos 0 ∷ []) (nest n ++ yield ∷ []) ∷ []
 
-abbrev small_shape : Mode
+abbrev pub small_shape : Mode
 small_shape = mode.Scalar (record { sizes = 4 ∷ []; scalable = false })
 
 -- with the regions of the module and of the function 32 in Scalar mode, and 40 in the others
@@ -115,5 +116,40 @@ Order =
     × IsRefused (body (constant (codes "%x") (pos 256) i8 ∷ [])) 2 5
     × IsRefused (body (simple (codes "affine.apply") (codes "%y") (codes "%n" ∷ codes "%n" ∷ []) (entry (codes "map") (map_over (expr.Mul d0 d0)) ∷ []) (index ∷ index ∷ []) index ∷ [])) 2 9
 
+-- ---- what isn't written
+-- %t = arith.constant true
+abbrev truth : Node
+truth = Node' (codes "arith.constant") 0 (codes "%t" ∷ []) [] (entry (codes "value") (attr.Bool true) ∷ []) [] [] end_of-Body [] (None ∷ [])
+
+-- a truth value is of type i1, and of no other
+abbrev pub Truths : Type 0
+Truths =
+    IsTaken (body (truth ∷ add (codes "%y") (codes "%t") (codes "%t") (type.Scalar (codes "i1")) ∷ []))
+    × IsRefused (body (truth ∷ add (codes "%y") (codes "%t") (codes "%x") i32 ∷ [])) 3 6
+
+-- ---- names of functions
+-- a name that stands before is told even of a function that may not stand where it does
+abbrev pub Functions : Type 0
+Functions =
+    IsRefused (body (function (codes "f") [] [] (terminator (codes "func.return") ∷ []) ∷ [])) 2 16
+    × IsRefused (body (function (codes "g") [] [] (terminator (codes "func.return") ∷ []) ∷ [])) 2 18
+
+-- ---- loops whose counts say more than there is
+abbrev counting : List ℕ → List Named → List TypeText → Node
+counting result entries outs =
+    operation (codes "affine.for") (result ∷ []) []
+    (entry (codes "lowerBoundMap") (bound (pos 0)) ∷ entry (codes "step") (number (pos 1) index) ∷ entry (codes "upperBoundMap") (bound (pos 4)) ∷ entries)
+    (region (arg (codes "%i") index ∷ arg (codes "%t") i32 ∷ []) (operation (codes "affine.yield") [] (codes "%t" ∷ []) [] [] (i32 ∷ []) [] ∷ []) ∷ []) [] outs
+
+abbrev one_carried : List Named
+one_carried = entry (codes "operandSegmentSizes") (attr.Array i32 (pos 0 ∷ pos 0 ∷ pos 1 ∷ [])) ∷ []
+
+-- a result for each value that is said to be carried, with its type; the value itself lacks. Where nothing is said there are no more
+-- results than operands
+abbrev pub Counted : Type 0
+Counted =
+    IsRefused (body (counting (codes "%r") one_carried [] ∷ [])) 2 6 × IsRefused (body (counting (codes "%r") one_carried (i32 ∷ []) ∷ [])) 2 9
+    × IsRefused (body (counting (codes "%r:99999999999999999999999999999999999999") [] [] ∷ [])) 2 3
+
 abbrev pub EdgeExamples : Type 0
-EdgeExamples = Nesting × Sizes × Operations × Symbols × Aliases × Twice × Order
+EdgeExamples = Nesting × Sizes × Operations × Symbols × Aliases × Twice × Order × Truths × Functions × Counted

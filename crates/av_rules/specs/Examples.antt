@@ -1,5 +1,5 @@
 -- For each code a tree that is refused for it, beside one that is taken.
-use Rattle.std.specs.Prelude.{ℕ, ◌≡◌, pos, negsuc, false, List, [], ◌∷◌, Some, None, codes}
+use Rattle.std.specs.Prelude.{ℕ, ◌+◌, ◌≡◌, pos, negsuc, false, List, [], ◌∷◌, ◌++◌, length, map, Some, None, codes}
 use Rattle.av_tree.specs.declared.attribute.Attr.TheVariants as attr
 use Rattle.av_tree.specs.declared.node.Node.{Node}
 use Rattle.av_tree.specs.declared.node.Tree.{Tree}
@@ -18,6 +18,20 @@ IsTaken tree = least tree mode.Run ≡ None
 -- the least pair that fails
 abbrev pub IsRefused : Tree → ℕ → ℕ → Type 0
 IsRefused tree k c = least tree mode.Run ≡ Some (record { operation = k; code = c })
+
+-- the same of each of some trees
+abbrev pub AreTaken : List Tree → Type 0
+AreTaken trees = map (λ tree. least tree mode.Run) trees ≡ map (λ _. None) trees
+
+abbrev pub AreRefused : List Tree → ℕ → ℕ → Type 0
+AreRefused trees k c = map (λ tree. least tree mode.Run) trees ≡ map (λ _. Some (record { operation = k; code = c })) trees
+
+-- each of some operations is taken in a function's body, behind those before it; and each is refused there for a code
+abbrev pub EachTaken : List Node → List Node → Type 0
+EachTaken before nodes = AreTaken (map (λ node. body (before ++ node ∷ [])) nodes)
+
+abbrev pub EachRefused : List Node → List Node → ℕ → Type 0
+EachRefused before nodes c = AreRefused (map (λ node. body (before ++ node ∷ [])) nodes) (2 + length before) c
 
 -- V1: arith.addf is no operation
 abbrev pub Unknown : Type 0

@@ -18,4 +18,10 @@ pub mod Trees
 pub mod Examples
 pub mod RowExamples
 pub mod EdgeExamples
+pub mod ScalarExamples
+pub mod BufferExamples
+pub mod VectorExamples
+pub mod RegionExamples
+pub mod LoopExamples
+pub mod TableExamples
 pub mod Walks

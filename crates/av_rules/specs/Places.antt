@@ -14,7 +14,7 @@ pub record Holder : Type 0 where
   pub hands_on : Option (List (Option Ty))
 
 -- An operation with what is known at its place: its holder, if it isn't the module; how many regions it stands in; whether it
--- is the last of its region; what is visible there; the names of the functions before it in its region; and what is the same everywhere.
+-- is the last of its region; what is visible there; the names of the functions before it; and what is the same everywhere.
 pub record Site : Type 0 where
   pub node : Node
   pub holder : Option Holder

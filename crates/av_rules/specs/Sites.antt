@@ -105,7 +105,7 @@ within site body = record site {
   holder = Some (record { row = site_row site; hands_on = option_and_then (handed_on site) (site_row site) });
   depth = site.depth + 1;
   scope = with_arguments (held_by site) 0 (inside body).args (outside (held_by site) site.scope);
-  earlier = [];
+  earlier = with_name site site.earlier;
 }
 
 -- ---- the walk

@@ -90,6 +90,29 @@ simple name result operands properties ins out = operation name (result ∷ []) 
 abbrev pub terminator : List ℕ → Node
 terminator name = operation name [] [] [] [] [] []
 
+-- values with their types, as operands
+abbrev pub cells : BodyArg
+cells = arg (codes "%A") buffer
+
+abbrev pub place : BodyArg
+place = arg (codes "%n") index
+
+abbrev pub word : BodyArg
+word = arg (codes "%x") i32
+
+-- NAME(operands) <{properties}>, with these results of these types
+abbrev pub named_results : List (List ℕ) → List ℕ → List BodyArg → List Named → List TypeText → Node
+named_results results name operands properties outs =
+    operation name results (map (λ (a : BodyArg). a.name) operands) properties [] (map (λ (a : BodyArg). a.ty) operands) outs
+
+-- with the result %y
+abbrev pub gives : List ℕ → List BodyArg → List Named → TypeText → Node
+gives name operands properties t = named_results (codes "%y" ∷ []) name operands properties (t ∷ [])
+
+-- and without one
+abbrev pub acts : List ℕ → List BodyArg → List Named → Node
+acts name operands properties = named_results [] name operands properties []
+
 abbrev pub constant : List ℕ → ℤ → TypeText → Node
 constant result n t = simple (codes "arith.constant") result [] (entry (codes "value") (number n t) ∷ []) [] t
 
@@ -132,10 +155,14 @@ function name inputs args nodes =
 abbrev pub tree_of : List Node → Tree
 tree_of nodes = record { aliases = []; root = operation (codes "builtin.module") [] [] [] (region [] nodes ∷ []) [] [] }
 
--- the arguments %A, %n and %x of a function
-abbrev pub arguments : List BodyArg
-arguments = arg (codes "%A") buffer ∷ arg (codes "%n") index ∷ arg (codes "%x") i32 ∷ []
+-- the arguments %A, %n and %x of a function, the first of this type
+abbrev pub arguments_over : TypeText → List BodyArg
+arguments_over t = arg (codes "%A") t ∷ place ∷ word ∷ []
 
 -- the function with this body and a return; its first operation has the number 2
+abbrev pub body_over : TypeText → List Node → Tree
+body_over t nodes =
+    tree_of (function (codes "f") (t ∷ index ∷ i32 ∷ []) (arguments_over t) (nodes ++ terminator (codes "func.return") ∷ []) ∷ [])
+
 abbrev pub body : List Node → Tree
-body nodes = tree_of (function (codes "f") (buffer ∷ index ∷ i32 ∷ []) arguments (nodes ++ terminator (codes "func.return") ∷ []) ∷ [])
+body nodes = body_over buffer nodes

@@ -2,7 +2,8 @@
 use Rattle.std.specs.Prelude.{ℕ, ◌+◌, ◌-◌, nat_le, nat_lt, ℤ, Bool, true, false, if◌then◌else◌, List, [], ◌∷◌, length, map, take, drop, slice_get, Option, Some, None, codes}
 use Rattle.std.specs.List.{list_any}
 use Rattle.std.specs.Option.{option_and_then, option_map, option_flatten}
-use Rattle.av_ir.specs.declared.ty.Elem.TheVariants.{Index}
+use Rattle.av_bits.specs.declared.types.Width.TheVariants.{W1}
+use Rattle.av_ir.specs.declared.ty.Elem.TheVariants.{Index, Int}
 use Rattle.av_ir.specs.declared.ty.Ty.{Ty}
 use Rattle.av_ir.specs.declared.ty.Ty.TheVariants as ty
 use Rattle.av_signatures.specs.declared.signature.Form.{Form}
@@ -13,11 +14,13 @@ use Rattle.av_signatures.specs.declared.signature.Source.{Source}
 use Rattle.av_signatures.specs.declared.signature.Source.TheVariants as source
 use Rattle.av_signatures.specs.Rows.{Property}
 use Rattle.av_signatures.specs.TableLaws.{least}
+use Rattle.av_tree.specs.declared.attribute.Attr.{Attr}
+use Rattle.av_tree.specs.declared.attribute.Attr.TheVariants as value
 use Rattle.av_tree.specs.declared.written.TypeText.{TypeText}
 use Rattle.av_types.specs.Texts.{is_type}
 use Rattle.av_types.specs.Types.{named_type}
 use Rattle.av_types.specs.Relations.{element_of, part_of, rank_of, truths_of}
-use Rattle.av_rules.specs.Entries.{numbers_of, segments_of}
+use Rattle.av_rules.specs.Entries.{Segments, entry_of, numbers_of, segments_of}
 use Rattle.av_rules.specs.Places.{Site, operand_types}
 use Rattle.av_rules.specs.Rows.{Row}
 use Rattle.av_rules.specs.Views.{fields}
@@ -34,9 +37,19 @@ index_type = ty.Scalar Index
 abbrev pub type_in : List (Option Ty) → ℕ → Option Ty
 type_in types k = option_flatten (slice_get types k)
 
--- the type of an operand, as found; of the result, as written
+-- `true` and `false` are of type i1, which isn't written with them
+abbrev pub own_type : Option Attr → Option Ty
+own_type (Some (value.Bool b)) = Some (ty.Scalar (Int W1))
+own_type _ = None
+
+abbrev pub written_or : Option Ty → Option TypeText → Option Ty
+written_or other (Some t) = spelled t
+written_or other None = other
+
+-- the type of an operand, as found; of the result, as written, or as its value says
 abbrev pub written_result : Site → ℕ → Option Ty
-written_result site k = option_and_then spelled (option_flatten (slice_get (fields site.node).out_types k))
+written_result site k =
+    written_or (own_type (entry_of (codes "value") site.node)) (option_flatten (slice_get (fields site.node).out_types k))
 
 abbrev pub type_at : Site → Place → Option Ty
 type_at site (place.Operand k) = type_in (operand_types site) k
@@ -59,10 +72,14 @@ carried_count row site =
     if has_segments row then option_map (λ s. s.carried) (segments_of site.node)
     else Some (length (operand_types site) - least row.operands)
 
--- the types of their first values
+-- the types of their first values, where there are as many operands as the parts say
+abbrev pub types_in_parts : List (Option Ty) → Segments → Option (List (Option Ty))
+types_in_parts types s =
+    if nat_le (s.lower + s.upper + s.carried) (length types) then Some (take s.carried (drop (s.lower + s.upper) types)) else None
+
 abbrev pub carried_types : Row → Site → Option (List (Option Ty))
 carried_types row site =
-    if has_segments row then option_map (λ s. take s.carried (drop (s.lower + s.upper) (operand_types site))) (segments_of site.node)
+    if has_segments row then option_and_then (types_in_parts (operand_types site)) (segments_of site.node)
     else Some (drop (least row.operands) (operand_types site))
 
 -- ---- results

@@ -7,5 +7,8 @@
 mod laws;
 mod mode;
 
-pub use laws::{all_sites, least_pairs, some_edges, some_operations, some_trees, views_agree};
+pub use laws::{
+    all_sites, buffer_operations, every_row, least_pairs, loop_operations, region_operations,
+    scalar_operations, some_edges, some_operations, some_trees, vector_operations, views_agree,
+};
 pub use mode::Mode;

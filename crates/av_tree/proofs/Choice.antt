@@ -1,5 +1,5 @@
 -- One token ahead tells the rows of a name apart: checked for each row and each class.
-use Rattle.std.proofs.Common.{◌≡◌, ℕ, zero, suc, Bool, true, false, ◌&&◌, ◌||◌, not, nat_eq, IsTrue, List, [], ◌∷◌, get_or, refl, sym, ap, ◌∙◌, subst}
+use Rattle.std.proofs.Common.{◌≡◌, ℕ, zero, suc, Bool, true, false, ◌&&◌, ◌||◌, not, nat_eq, IsTrue, List, [], ◌∷◌, get_or, refl, sym, ◌∙◌, subst}
 use Rattle.av_lex.specs.declared.token.Sign.TheVariants as sign
 use Rattle.av_tree.specs.declared.class.Class.{Class}
 use Rattle.av_tree.specs.declared.class.Class.TheVariants as class
@@ -20,9 +20,6 @@ use Rattle.av_tree.specs.declared.table.values.ValueRule.TheVariants as values
 use Rattle.av_tree.specs.declared.table.arith.ArithRule.TheVariants as arith
 use Rattle.av_tree.specs.declared.table.affine.AffineRule.TheVariants as affine
 use Rattle.av_tree.specs.declared.table.subscripts.SubscriptRule.TheVariants as subscripts
-use Rattle.av_tree.specs.declared.table.memref.MemRefRule.TheVariants as memref
-use Rattle.av_tree.specs.declared.table.scf.ScfRule.TheVariants as scf
-use Rattle.av_tree.specs.declared.table.vector.VectorRule.TheVariants as vector
 use Rattle.av_tree.specs.Classes.{fits_of}
 use Rattle.av_tree.specs.Table.{symbols_of, name_of, choice_of, is_nullable, has_token}
 use Rattle.std.proofs.lemmas.Bool.{eqb-true}
@@ -30,10 +27,15 @@ use Rattle.std.proofs.Common.{eq-eqb}
 use Rattle.av_tree.specs.declared.table.Name.TheVariants as name
 use Rattle.av_tree.specs.declared.table.file.FileName.TheVariants as file_name
 use Rattle.av_tree.proofs.Lighter.{lighter}
-use Rattle.av_tree.specs.Sets.{class_number, all_classes, rule_number, all_rules, first_of, follow_of, has, is_same_class}
+use Rattle.av_tree.specs.Sets.{class_number, operation_in, all_classes, rule_number, operation_of, all_rules, first_of, follow_of, has, is_same_class}
+use Rattle.av_tree.specs.declared.table.functions.FunctionName.TheVariants as functions_name
+use Rattle.av_dialects.specs.Rows.{Part, form_of, forms}
+use Rattle.av_tree.specs.Forms.{form_symbols}
+use Rattle.av_tree.proofs.Forms.{of-form}
+use Rattle.std.specs.List.{list_all}
 
 unfoldable pub is_same_rule : Rule → Rule → Bool
-is_same_rule a b = nat_eq (rule_number a) (rule_number b)
+is_same_rule a b = nat_eq (rule_number a) (rule_number b) && nat_eq (operation_of a) (operation_of b)
 
 abbrev pub implies : Bool → Bool → Bool
 implies true b = b
@@ -67,283 +69,27 @@ abbrev all_of : (Class → Bool) → List Class → Bool
 all_of p [] = true
 all_of p (c ∷ cs) = p c && all_of p cs
 
-abbrev is_told_apart_always : Rule → Bool
-is_told_apart_always r = all_of (is_told_apart r) all_classes
+abbrev is_told_apart_always : ℕ → Rule → Bool
+is_told_apart_always n r = all_of (is_told_apart r) (all_classes n)
 
-told_apart_always : (r : Rule) → IsTrue (is_told_apart_always r)
-unfolding class_number all_classes rule_number first_of follow_of has is_same_class is_same_rule
-told_apart_always (rule.File file.WholeFile) = refl
-told_apart_always (rule.File file.NoMoreAliases) = refl
-told_apart_always (rule.File file.NextAlias) = refl
-told_apart_always (rule.File file.AliasOfMap) = refl
-told_apart_always (rule.File file.AliasOfSet) = refl
-told_apart_always (rule.File file.NoContent) = refl
-told_apart_always (rule.File file.NamedContent) = refl
-told_apart_always (rule.File file.PlainContent) = refl
-told_apart_always (rule.File file.OnlyModule) = refl
-told_apart_always (rule.File file.OnlyGenericModule) = refl
-told_apart_always (rule.File file.FirstFunction) = refl
-told_apart_always (rule.File file.NoMoreFunctions) = refl
-told_apart_always (rule.File file.NextNamedFunction) = refl
-told_apart_always (rule.File file.NextFunction) = refl
-told_apart_always (rule.File file.WrittenFunction) = refl
-told_apart_always (rule.File file.GenericFunction) = refl
-told_apart_always (rule.Function functions.BuiltinModule) = refl
-told_apart_always (rule.Function functions.NoSymbol) = refl
-told_apart_always (rule.Function functions.WrittenSymbol) = refl
-told_apart_always (rule.Function functions.FuncFunc) = refl
-told_apart_always (rule.Function functions.NoVisibility) = refl
-told_apart_always (rule.Function functions.WrittenVisibility) = refl
-told_apart_always (rule.Function functions.NoFunctionArguments) = refl
-told_apart_always (rule.Function functions.FirstFunctionArgument) = refl
-told_apart_always (rule.Function functions.NoMoreFunctionArguments) = refl
-told_apart_always (rule.Function functions.NextFunctionArgument) = refl
-told_apart_always (rule.Function functions.ArgumentOfFunction) = refl
-told_apart_always (rule.Function functions.ModuleForm) = refl
-told_apart_always (rule.Function functions.FunctionForm) = refl
-told_apart_always (rule.Region regions.NoMoreOperations) = refl
-told_apart_always (rule.Region regions.WithResults) = refl
-told_apart_always (rule.Region regions.WithoutResults) = refl
-told_apart_always (rule.Region regions.PlainOperation) = refl
-told_apart_always (rule.Region regions.TerminatorOperation) = refl
-told_apart_always (rule.Region regions.TerminatorWithValues) = refl
-told_apart_always (rule.Region regions.TerminatorLast) = refl
-told_apart_always (rule.Region regions.TerminatorThenOperation) = refl
-told_apart_always (rule.Region regions.ValuesAndTypes) = refl
-told_apart_always (rule.Region regions.NamedRegion) = refl
-told_apart_always (rule.Generic generic.GenericForm) = refl
-told_apart_always (rule.Generic generic.WholeGeneric) = refl
-told_apart_always (rule.Generic generic.NoProperties) = refl
-told_apart_always (rule.Generic generic.WrittenProperties) = refl
-told_apart_always (rule.Generic generic.NoRegions) = refl
-told_apart_always (rule.Generic generic.WrittenRegions) = refl
-told_apart_always (rule.Generic generic.NoMoreRegions) = refl
-told_apart_always (rule.Generic generic.NextRegion) = refl
-told_apart_always (rule.Generic generic.LabelledRegion) = refl
-told_apart_always (rule.Generic generic.NoLabel) = refl
-told_apart_always (rule.Generic generic.BlockLabel) = refl
-told_apart_always (rule.Generic generic.NoArguments) = refl
-told_apart_always (rule.Generic generic.FirstArgument) = refl
-told_apart_always (rule.Generic generic.NoMoreArguments) = refl
-told_apart_always (rule.Generic generic.NextArgument) = refl
-told_apart_always (rule.Type types.ScalarType) = refl
-told_apart_always (rule.Type types.BufferType) = refl
-told_apart_always (rule.Type types.TileType) = refl
-told_apart_always (rule.Type types.MemRefType) = refl
-told_apart_always (rule.Type types.NoMoreSizes) = refl
-told_apart_always (rule.Type types.NextSize) = refl
-told_apart_always (rule.Type types.VectorType) = refl
-told_apart_always (rule.Type types.NoMoreDims) = refl
-told_apart_always (rule.Type types.FixedDim) = refl
-told_apart_always (rule.Type types.ScalableDim) = refl
-told_apart_always (rule.Type types.NoTypes) = refl
-told_apart_always (rule.Type types.FirstType) = refl
-told_apart_always (rule.Type types.NoMoreTypes) = refl
-told_apart_always (rule.Type types.NextType) = refl
-told_apart_always (rule.Type types.OneResultType) = refl
-told_apart_always (rule.Type types.ResultTypeList) = refl
-told_apart_always (rule.Type types.NoResultTypes) = refl
-told_apart_always (rule.Type types.WrittenResultTypes) = refl
-told_apart_always (rule.Type types.NoLayout) = refl
-told_apart_always (rule.Type types.StridedLayout) = refl
-told_apart_always (rule.Type types.NoStrides) = refl
-told_apart_always (rule.Type types.FirstStride) = refl
-told_apart_always (rule.Type types.NoMoreStrides) = refl
-told_apart_always (rule.Type types.NextStride) = refl
-told_apart_always (rule.Type types.StaticStride) = refl
-told_apart_always (rule.Type types.DynamicStride) = refl
-told_apart_always (rule.Type types.NoOffset) = refl
-told_apart_always (rule.Type types.WrittenOffset) = refl
-told_apart_always (rule.Attribute attributes.NumberAttribute) = refl
-told_apart_always (rule.Attribute attributes.BoolAttribute) = refl
-told_apart_always (rule.Attribute attributes.StringAttribute) = refl
-told_apart_always (rule.Attribute attributes.SymbolAttribute) = refl
-told_apart_always (rule.Attribute attributes.TypeAttribute) = refl
-told_apart_always (rule.Attribute attributes.MapAttribute) = refl
-told_apart_always (rule.Attribute attributes.SetAttribute) = refl
-told_apart_always (rule.Attribute attributes.AliasAttribute) = refl
-told_apart_always (rule.Attribute attributes.HashAttribute) = refl
-told_apart_always (rule.Attribute attributes.ListAttribute) = refl
-told_apart_always (rule.Attribute attributes.DictionaryAttribute) = refl
-told_apart_always (rule.Attribute attributes.ArrayAttribute) = refl
-told_apart_always (rule.Attribute attributes.DenseAttribute) = refl
-told_apart_always (rule.Attribute attributes.NoNumberType) = refl
-told_apart_always (rule.Attribute attributes.WrittenNumberType) = refl
-told_apart_always (rule.Attribute attributes.NoHashWords) = refl
-told_apart_always (rule.Attribute attributes.WrittenHashWords) = refl
-told_apart_always (rule.Attribute attributes.NoAttributes) = refl
-told_apart_always (rule.Attribute attributes.FirstAttribute) = refl
-told_apart_always (rule.Attribute attributes.NoMoreAttributes) = refl
-told_apart_always (rule.Attribute attributes.NextAttribute) = refl
-told_apart_always (rule.Attribute attributes.NoArrayNumbers) = refl
-told_apart_always (rule.Attribute attributes.WrittenArrayNumbers) = refl
-told_apart_always (rule.Attribute attributes.DenseElements) = refl
-told_apart_always (rule.Attribute attributes.NumberElement) = refl
-told_apart_always (rule.Attribute attributes.BoolElement) = refl
-told_apart_always (rule.Attribute attributes.ListElement) = refl
-told_apart_always (rule.Attribute attributes.NoElements) = refl
-told_apart_always (rule.Attribute attributes.FirstElement) = refl
-told_apart_always (rule.Attribute attributes.NoMoreElements) = refl
-told_apart_always (rule.Attribute attributes.NextElement) = refl
-told_apart_always (rule.Attribute attributes.WrittenDictionary) = refl
-told_apart_always (rule.Attribute attributes.NoEntries) = refl
-told_apart_always (rule.Attribute attributes.FirstEntry) = refl
-told_apart_always (rule.Attribute attributes.NoMoreEntries) = refl
-told_apart_always (rule.Attribute attributes.NextEntry) = refl
-told_apart_always (rule.Attribute attributes.PlainEntry) = refl
-told_apart_always (rule.Attribute attributes.FunctionTypeEntry) = refl
-told_apart_always (rule.Attribute attributes.UnitEntry) = refl
-told_apart_always (rule.Attribute attributes.WrittenEntry) = refl
-told_apart_always (rule.Attribute attributes.UnitFunctionType) = refl
-told_apart_always (rule.Attribute attributes.WrittenFunctionType) = refl
-told_apart_always (rule.Attribute attributes.NoFunctionType) = refl
-told_apart_always (rule.Attribute attributes.FunctionType) = refl
-told_apart_always (rule.Attribute attributes.NoDictionary) = refl
-told_apart_always (rule.Attribute attributes.DictionaryHere) = refl
-told_apart_always (rule.Attribute attributes.NoAttributesPart) = refl
-told_apart_always (rule.Attribute attributes.AttributesPart) = refl
-told_apart_always (rule.Map maps.WrittenMap) = refl
-told_apart_always (rule.Map maps.WrittenSet) = refl
-told_apart_always (rule.Map maps.DimensionNames) = refl
-told_apart_always (rule.Map maps.NoSymbolNames) = refl
-told_apart_always (rule.Map maps.WrittenSymbolNames) = refl
-told_apart_always (rule.Map maps.NoWords) = refl
-told_apart_always (rule.Map maps.FirstWord) = refl
-told_apart_always (rule.Map maps.NoMoreWords) = refl
-told_apart_always (rule.Map maps.NextWord) = refl
-told_apart_always (rule.Map maps.NoExpressions) = refl
-told_apart_always (rule.Map maps.FirstExpression) = refl
-told_apart_always (rule.Map maps.NoMoreExpressions) = refl
-told_apart_always (rule.Map maps.NextExpression) = refl
-told_apart_always (rule.Map maps.NoSetRows) = refl
-told_apart_always (rule.Map maps.FirstSetRow) = refl
-told_apart_always (rule.Map maps.NoMoreSetRows) = refl
-told_apart_always (rule.Map maps.NextSetRow) = refl
-told_apart_always (rule.Map maps.RowOfSet) = refl
-told_apart_always (rule.Map maps.AtLeastZero) = refl
-told_apart_always (rule.Map maps.EqualToZero) = refl
-told_apart_always (rule.Map maps.WholeExpression) = refl
-told_apart_always (rule.Map maps.NoMoreTerms) = refl
-told_apart_always (rule.Map maps.PlusTerm) = refl
-told_apart_always (rule.Map maps.MinusTerm) = refl
-told_apart_always (rule.Map maps.WholeTerm) = refl
-told_apart_always (rule.Map maps.NoMoreFactors) = refl
-told_apart_always (rule.Map maps.TimesFactor) = refl
-told_apart_always (rule.Map maps.DivisionFactor) = refl
-told_apart_always (rule.Map maps.NumberFactor) = refl
-told_apart_always (rule.Map maps.PlainFactor) = refl
-told_apart_always (rule.Map maps.MinusFactor) = refl
-told_apart_always (rule.Map maps.NegativeNumber) = refl
-told_apart_always (rule.Map maps.NegatedBase) = refl
-told_apart_always (rule.Map maps.ParameterName) = refl
-told_apart_always (rule.Map maps.DivisionName) = refl
-told_apart_always (rule.Map maps.InBrackets) = refl
-told_apart_always (rule.Value values.NamedValue) = refl
-told_apart_always (rule.Value values.NoResultNumber) = refl
-told_apart_always (rule.Value values.WrittenResultNumber) = refl
-told_apart_always (rule.Value values.NoValues) = refl
-told_apart_always (rule.Value values.FirstValue) = refl
-told_apart_always (rule.Value values.NoMoreValues) = refl
-told_apart_always (rule.Value values.NextValue) = refl
-told_apart_always (rule.Value values.NoFurtherValue) = refl
-told_apart_always (rule.Value values.FurtherValue) = refl
-told_apart_always (rule.Value values.PlainInteger) = refl
-told_apart_always (rule.Value values.NegativeInteger) = refl
-told_apart_always (rule.Value values.NoIntegers) = refl
-told_apart_always (rule.Value values.FirstInteger) = refl
-told_apart_always (rule.Value values.NoMoreIntegers) = refl
-told_apart_always (rule.Value values.NextInteger) = refl
-told_apart_always (rule.Value values.ResultNames) = refl
-told_apart_always (rule.Value values.NoMoreResults) = refl
-told_apart_always (rule.Value values.NextResult) = refl
-told_apart_always (rule.Value values.OneResult) = refl
-told_apart_always (rule.Value values.CountedResults) = refl
-told_apart_always (rule.Arith arith.ArithConstant) = refl
-told_apart_always (rule.Arith arith.ArithOverflowing) = refl
-told_apart_always (rule.Arith arith.ArithBinary) = refl
-told_apart_always (rule.Arith arith.ArithCmpi) = refl
-told_apart_always (rule.Arith arith.ArithSelect) = refl
-told_apart_always (rule.Arith arith.ArithCast) = refl
-told_apart_always (rule.Arith arith.BoolConstant) = refl
-told_apart_always (rule.Arith arith.NumberConstant) = refl
-told_apart_always (rule.Arith arith.DenseConstant) = refl
-told_apart_always (rule.Arith arith.NoOverflow) = refl
-told_apart_always (rule.Arith arith.WrittenOverflow) = refl
-told_apart_always (rule.Arith arith.NoMoreOverflowFlags) = refl
-told_apart_always (rule.Arith arith.NextOverflowFlag) = refl
-told_apart_always (rule.Arith arith.ScalarSelected) = refl
-told_apart_always (rule.Arith arith.BufferSelected) = refl
-told_apart_always (rule.Arith arith.VectorThenSelected) = refl
-told_apart_always (rule.Arith arith.OnlySelected) = refl
-told_apart_always (rule.Arith arith.SelectedByVector) = refl
-told_apart_always (rule.Affine affine.AffineFor) = refl
-told_apart_always (rule.Affine affine.AffineIf) = refl
-told_apart_always (rule.Affine affine.AffineMapOp) = refl
-told_apart_always (rule.Affine affine.AffineLoad) = refl
-told_apart_always (rule.Affine affine.AffineStore) = refl
-told_apart_always (rule.Affine affine.GreatestOf) = refl
-told_apart_always (rule.Affine affine.PlainLowerBound) = refl
-told_apart_always (rule.Affine affine.LeastOf) = refl
-told_apart_always (rule.Affine affine.PlainUpperBound) = refl
-told_apart_always (rule.Affine affine.NumberBound) = refl
-told_apart_always (rule.Affine affine.ValueBound) = refl
-told_apart_always (rule.Affine affine.MapBound) = refl
-told_apart_always (rule.Affine affine.NoStep) = refl
-told_apart_always (rule.Affine affine.WrittenStep) = refl
-told_apart_always (rule.Affine affine.NoIterArgs) = refl
-told_apart_always (rule.Affine affine.WrittenIterArgs) = refl
-told_apart_always (rule.Affine affine.NoCarried) = refl
-told_apart_always (rule.Affine affine.FirstCarried) = refl
-told_apart_always (rule.Affine affine.NoMoreCarried) = refl
-told_apart_always (rule.Affine affine.NextCarried) = refl
-told_apart_always (rule.Affine affine.MapWritten) = refl
-told_apart_always (rule.Affine affine.MapByAlias) = refl
-told_apart_always (rule.Affine affine.SetWritten) = refl
-told_apart_always (rule.Affine affine.SetByAlias) = refl
-told_apart_always (rule.Affine affine.DimensionOperands) = refl
-told_apart_always (rule.Affine affine.NoSymbolOperands) = refl
-told_apart_always (rule.Affine affine.WrittenSymbolOperands) = refl
-told_apart_always (rule.Affine affine.NoElse) = refl
-told_apart_always (rule.Affine affine.WrittenElse) = refl
-told_apart_always (rule.Subscript subscripts.NoSubscripts) = refl
-told_apart_always (rule.Subscript subscripts.FirstSubscript) = refl
-told_apart_always (rule.Subscript subscripts.NoMoreSubscripts) = refl
-told_apart_always (rule.Subscript subscripts.NextSubscript) = refl
-told_apart_always (rule.Subscript subscripts.WholeSubscript) = refl
-told_apart_always (rule.Subscript subscripts.NoMoreSubscriptTerms) = refl
-told_apart_always (rule.Subscript subscripts.PlusSubscriptTerm) = refl
-told_apart_always (rule.Subscript subscripts.MinusSubscriptTerm) = refl
-told_apart_always (rule.Subscript subscripts.WholeSubscriptTerm) = refl
-told_apart_always (rule.Subscript subscripts.NoMoreSubscriptFactors) = refl
-told_apart_always (rule.Subscript subscripts.TimesSubscriptFactor) = refl
-told_apart_always (rule.Subscript subscripts.DivisionSubscriptFactor) = refl
-told_apart_always (rule.Subscript subscripts.NumberSubscriptFactor) = refl
-told_apart_always (rule.Subscript subscripts.PlainSubscriptFactor) = refl
-told_apart_always (rule.Subscript subscripts.MinusSubscriptFactor) = refl
-told_apart_always (rule.Subscript subscripts.NegativeSubscriptNumber) = refl
-told_apart_always (rule.Subscript subscripts.NegatedSubscriptBase) = refl
-told_apart_always (rule.Subscript subscripts.DimensionValue) = refl
-told_apart_always (rule.Subscript subscripts.SymbolValue) = refl
-told_apart_always (rule.Subscript subscripts.SubscriptInBrackets) = refl
-told_apart_always (rule.MemRef memref.MemRefLoad) = refl
-told_apart_always (rule.MemRef memref.MemRefStore) = refl
-told_apart_always (rule.MemRef memref.MemRefDim) = refl
-told_apart_always (rule.Scf scf.ScfFor) = refl
-told_apart_always (rule.Vector vector.VectorLoad) = refl
-told_apart_always (rule.Vector vector.VectorStore) = refl
-told_apart_always (rule.Vector vector.VectorMaskedLoad) = refl
-told_apart_always (rule.Vector vector.VectorMaskedStore) = refl
-told_apart_always (rule.Vector vector.VectorBroadcast) = refl
-told_apart_always (rule.Vector vector.VectorCreateMask) = refl
-told_apart_always (rule.Vector vector.VectorReduction) = refl
-told_apart_always (rule.Vector vector.VectorExtract) = refl
-told_apart_always (rule.Vector vector.VectorInsert) = refl
-told_apart_always (rule.Vector vector.VectorShuffle) = refl
-told_apart_always (rule.Vector vector.VectorStep) = refl
-told_apart_always (rule.Vector vector.VectorVscale) = refl
+pub both : (a b : Bool) → IsTrue (a && b) → IsTrue a × IsTrue b
+both true b t = (refl, t)
+both false b t = absurd (cc)
 
-class_at : (c : Class) → get_or all_classes (class_number c) class.End ≡ c
-unfolding class_number all_classes
+pub implied : (a b : Bool) → IsTrue (implies a b) → IsTrue a → IsTrue b
+implied true b h t = h
+implied false b h t = absurd (cc)
+
+and-both : (a b : Bool) → IsTrue a → IsTrue b → IsTrue (a && b)
+and-both true b t u = u
+and-both false b t u = absurd (cc)
+
+or-false : (a : Bool) → IsTrue (a || false) → IsTrue a
+or-false true t = refl
+or-false false t = t
+
+class_at : (c : Class) → get_or (all_classes (operation_in c)) (class_number c) class.End ≡ c
+unfolding class_number operation_in all_classes
 class_at class.End = refl
 class_at (class.Sign sign.OpenRound) = refl
 class_at (class.Sign sign.CloseRound) = refl
@@ -365,29 +111,6 @@ class_at (class.Sign sign.AtLeast) = refl
 class_at (class.Sign sign.EqualEqual) = refl
 class_at (class.Word key.Module) = refl
 class_at (class.Word key.FuncFunc) = refl
-class_at (class.Word key.ArithConstant) = refl
-class_at (class.Word key.ArithCmpi) = refl
-class_at (class.Word key.ArithSelect) = refl
-class_at (class.Word key.AffineFor) = refl
-class_at (class.Word key.AffineIf) = refl
-class_at (class.Word key.AffineLoad) = refl
-class_at (class.Word key.AffineStore) = refl
-class_at (class.Word key.MemRefLoad) = refl
-class_at (class.Word key.MemRefStore) = refl
-class_at (class.Word key.MemRefDim) = refl
-class_at (class.Word key.ScfFor) = refl
-class_at (class.Word key.VectorLoad) = refl
-class_at (class.Word key.VectorStore) = refl
-class_at (class.Word key.VectorMaskedLoad) = refl
-class_at (class.Word key.VectorMaskedStore) = refl
-class_at (class.Word key.VectorBroadcast) = refl
-class_at (class.Word key.VectorCreateMask) = refl
-class_at (class.Word key.VectorReduction) = refl
-class_at (class.Word key.VectorExtract) = refl
-class_at (class.Word key.VectorInsert) = refl
-class_at (class.Word key.VectorShuffle) = refl
-class_at (class.Word key.VectorStep) = refl
-class_at (class.Word key.VectorVscale) = refl
 class_at (class.Word key.MemRef) = refl
 class_at (class.Word key.Vector) = refl
 class_at (class.Word key.Strided) = refl
@@ -409,10 +132,6 @@ class_at (class.Word key.From) = refl
 class_at (class.Word key.Min) = refl
 class_at (class.Word key.Max) = refl
 class_at (class.Word key.Terminator) = refl
-class_at (class.Word key.Overflowing) = refl
-class_at (class.Word key.Binary) = refl
-class_at (class.Word key.Cast) = refl
-class_at (class.Word key.MapOp) = refl
 class_at (class.Word key.Bool) = refl
 class_at (class.Word key.Visibility) = refl
 class_at (class.Word key.OverflowFlag) = refl
@@ -434,9 +153,328 @@ class_at class.CaretId = refl
 class_at class.QuotedModule = refl
 class_at class.QuotedFunc = refl
 class_at class.Quoted = refl
+class_at (class.Word (key.Operation n)) = refl
 
-rule_at : (r : Rule) → get_or all_rules (rule_number r) (rule.File file.WholeFile) ≡ r
-unfolding rule_number all_rules
+-- Classes of one number that name one operation are the same.
+pub same-number : (a b : Class) → class_number a ≡ class_number b → operation_in a ≡ operation_in b → a ≡ b
+same-number a b e f =
+    sym (class_at a) ∙ rw (e, f) (class_at b)
+
+pub same-class : (a b : Class) → IsTrue (is_same_class a b) → a ≡ b
+unfolding is_same_class
+same-class a b t =
+    let h = both _ _ t in
+    same-number a b (eqb-true (class_number a) (class_number b) h.0) (eqb-true (operation_in a) (operation_in b) h.1)
+
+pub same-as-itself : (c : Class) → IsTrue (is_same_class c c)
+unfolding is_same_class
+same-as-itself c = and-both _ _ (eq-eqb (class_number c) (class_number c) refl) (eq-eqb (operation_in c) (operation_in c) refl)
+
+-- ---- the rows of operations
+implies-so : (a b : Bool) → (IsTrue a → IsTrue b) → IsTrue (implies a b)
+implies-so true b f = f refl
+implies-so false b f = refl
+
+all-of : (p : Class → Bool) → ((c : Class) → IsTrue (p c)) → (cs : List Class) → IsTrue (all_of p cs)
+all-of p f [] = refl
+all-of p f (c ∷ cs) = and-both _ _ (f c) (all-of p f cs)
+
+all-at : (p : Class → Bool) (cs : List Class) (k : ℕ) → IsTrue (all_of p cs) → IsTrue (p class.End) → IsTrue (p (get_or cs k class.End))
+all-at p [] k h e = e
+all-at p (c ∷ cs) zero h e = (both _ _ h).0
+all-at p (c ∷ cs) (suc k) h e = all-at p cs k (both _ _ h).1 e
+
+end-first : (n : ℕ) (p : Class → Bool) → IsTrue (all_of p (all_classes n)) → IsTrue (p class.End)
+unfolding all_classes
+end-first n p h = (both _ _ h).0
+
+for-each : (p : Class → Bool) → ((n : ℕ) → IsTrue (all_of p (all_classes n))) → (c : Class) → IsTrue (p c)
+for-each p h c =
+    let always : IsTrue (all_of p (all_classes (operation_in c))) = h (operation_in c) in
+    subst (λ (k : Class). IsTrue (p k)) (class_at c) (all-at p (all_classes (operation_in c)) (class_number c) always (end-first (operation_in c) p always))
+
+abbrev a_form : Name
+a_form = name.Function functions_name.Form
+
+abbrev follows_in_form : ℕ → List Part → Bool
+follows_in_form n ps = all_of (λ (c : Class). follows (form_symbols ps) a_form c) (all_classes n)
+
+follows-in-forms : (n : ℕ) → IsTrue (list_all (follows_in_form n) forms)
+unfolding forms class_number operation_in all_classes first_of follow_of has is_same_class
+follows-in-forms n = refl
+
+follows-in-none : (n : ℕ) → IsTrue (follows_in_form n [])
+unfolding all_classes
+follows-in-none n = refl
+
+first-of-form : (n : ℕ) → IsTrue (has (first_of a_form) (class.Word (key.Operation n)))
+unfolding class_number first_of has
+first-of-form n = refl
+
+same-operation : (n : ℕ) → IsTrue (is_same_rule (rule.Operation n) (rule.Operation n))
+unfolding rule_number operation_of is_same_rule
+same-operation n = eq-eqb n n refl
+
+operation-apart : (n : ℕ) (c : Class) → IsTrue (is_told_apart (rule.Operation n) c)
+operation-apart n c =
+    let own = λ (t : IsTrue (is_same_class (class.Word (key.Operation n)) c)). same-class (class.Word (key.Operation n)) c t in
+    and-both _ _
+    (implies-so _ _ (λ t. subst (λ (k : Class). IsTrue (has (first_of a_form) k)) (own t) (first-of-form n)))
+    (and-both _ _
+    (implies-so _ _ (λ t. subst (λ (k : Class). IsTrue (is_same_rule (choice_of a_form k) (rule.Operation n))) (own (or-false _ t)) (same-operation n)))
+    (for-each (λ (k : Class). follows (form_symbols (form_of n)) a_form k)
+    (λ m. of-form (follows_in_form m) (follows-in-none m) (follows-in-forms m) n) c))
+
+-- ---- all rows
+told_apart_always : (n : ℕ) (r : Rule) → IsTrue (is_told_apart_always n r)
+unfolding class_number operation_in all_classes rule_number operation_of first_of follow_of has is_same_class is_same_rule
+told_apart_always n (rule.Operation m) = all-of (is_told_apart (rule.Operation m)) (operation-apart m) (all_classes n)
+told_apart_always n (rule.File file.WholeFile) = refl
+told_apart_always n (rule.File file.NoMoreAliases) = refl
+told_apart_always n (rule.File file.NextAlias) = refl
+told_apart_always n (rule.File file.AliasOfMap) = refl
+told_apart_always n (rule.File file.AliasOfSet) = refl
+told_apart_always n (rule.File file.NoContent) = refl
+told_apart_always n (rule.File file.NamedContent) = refl
+told_apart_always n (rule.File file.PlainContent) = refl
+told_apart_always n (rule.File file.OnlyModule) = refl
+told_apart_always n (rule.File file.OnlyGenericModule) = refl
+told_apart_always n (rule.File file.FirstFunction) = refl
+told_apart_always n (rule.File file.NoMoreFunctions) = refl
+told_apart_always n (rule.File file.NextNamedFunction) = refl
+told_apart_always n (rule.File file.NextFunction) = refl
+told_apart_always n (rule.File file.WrittenFunction) = refl
+told_apart_always n (rule.File file.GenericFunction) = refl
+told_apart_always n (rule.Function functions.BuiltinModule) = refl
+told_apart_always n (rule.Function functions.NoSymbol) = refl
+told_apart_always n (rule.Function functions.WrittenSymbol) = refl
+told_apart_always n (rule.Function functions.FuncFunc) = refl
+told_apart_always n (rule.Function functions.NoVisibility) = refl
+told_apart_always n (rule.Function functions.WrittenVisibility) = refl
+told_apart_always n (rule.Function functions.NoFunctionArguments) = refl
+told_apart_always n (rule.Function functions.FirstFunctionArgument) = refl
+told_apart_always n (rule.Function functions.NoMoreFunctionArguments) = refl
+told_apart_always n (rule.Function functions.NextFunctionArgument) = refl
+told_apart_always n (rule.Function functions.ArgumentOfFunction) = refl
+told_apart_always n (rule.Function functions.ModuleForm) = refl
+told_apart_always n (rule.Function functions.FunctionForm) = refl
+told_apart_always n (rule.Region regions.NoMoreOperations) = refl
+told_apart_always n (rule.Region regions.WithResults) = refl
+told_apart_always n (rule.Region regions.WithoutResults) = refl
+told_apart_always n (rule.Region regions.PlainOperation) = refl
+told_apart_always n (rule.Region regions.TerminatorOperation) = refl
+told_apart_always n (rule.Region regions.TerminatorWithValues) = refl
+told_apart_always n (rule.Region regions.TerminatorLast) = refl
+told_apart_always n (rule.Region regions.TerminatorThenOperation) = refl
+told_apart_always n (rule.Region regions.ValuesAndTypes) = refl
+told_apart_always n (rule.Region regions.NamedRegion) = refl
+told_apart_always n (rule.Generic generic.GenericForm) = refl
+told_apart_always n (rule.Generic generic.WholeGeneric) = refl
+told_apart_always n (rule.Generic generic.NoProperties) = refl
+told_apart_always n (rule.Generic generic.WrittenProperties) = refl
+told_apart_always n (rule.Generic generic.NoRegions) = refl
+told_apart_always n (rule.Generic generic.WrittenRegions) = refl
+told_apart_always n (rule.Generic generic.NoMoreRegions) = refl
+told_apart_always n (rule.Generic generic.NextRegion) = refl
+told_apart_always n (rule.Generic generic.LabelledRegion) = refl
+told_apart_always n (rule.Generic generic.NoLabel) = refl
+told_apart_always n (rule.Generic generic.BlockLabel) = refl
+told_apart_always n (rule.Generic generic.NoArguments) = refl
+told_apart_always n (rule.Generic generic.FirstArgument) = refl
+told_apart_always n (rule.Generic generic.NoMoreArguments) = refl
+told_apart_always n (rule.Generic generic.NextArgument) = refl
+told_apart_always n (rule.Type types.ScalarType) = refl
+told_apart_always n (rule.Type types.BufferType) = refl
+told_apart_always n (rule.Type types.TileType) = refl
+told_apart_always n (rule.Type types.MemRefType) = refl
+told_apart_always n (rule.Type types.NoMoreSizes) = refl
+told_apart_always n (rule.Type types.NextSize) = refl
+told_apart_always n (rule.Type types.VectorType) = refl
+told_apart_always n (rule.Type types.NoMoreDims) = refl
+told_apart_always n (rule.Type types.FixedDim) = refl
+told_apart_always n (rule.Type types.ScalableDim) = refl
+told_apart_always n (rule.Type types.NoTypes) = refl
+told_apart_always n (rule.Type types.FirstType) = refl
+told_apart_always n (rule.Type types.NoMoreTypes) = refl
+told_apart_always n (rule.Type types.NextType) = refl
+told_apart_always n (rule.Type types.OneResultType) = refl
+told_apart_always n (rule.Type types.ResultTypeList) = refl
+told_apart_always n (rule.Type types.NoResultTypes) = refl
+told_apart_always n (rule.Type types.WrittenResultTypes) = refl
+told_apart_always n (rule.Type types.NoLayout) = refl
+told_apart_always n (rule.Type types.StridedLayout) = refl
+told_apart_always n (rule.Type types.NoStrides) = refl
+told_apart_always n (rule.Type types.FirstStride) = refl
+told_apart_always n (rule.Type types.NoMoreStrides) = refl
+told_apart_always n (rule.Type types.NextStride) = refl
+told_apart_always n (rule.Type types.StaticStride) = refl
+told_apart_always n (rule.Type types.DynamicStride) = refl
+told_apart_always n (rule.Type types.NoOffset) = refl
+told_apart_always n (rule.Type types.WrittenOffset) = refl
+told_apart_always n (rule.Attribute attributes.NumberAttribute) = refl
+told_apart_always n (rule.Attribute attributes.BoolAttribute) = refl
+told_apart_always n (rule.Attribute attributes.StringAttribute) = refl
+told_apart_always n (rule.Attribute attributes.SymbolAttribute) = refl
+told_apart_always n (rule.Attribute attributes.TypeAttribute) = refl
+told_apart_always n (rule.Attribute attributes.MapAttribute) = refl
+told_apart_always n (rule.Attribute attributes.SetAttribute) = refl
+told_apart_always n (rule.Attribute attributes.AliasAttribute) = refl
+told_apart_always n (rule.Attribute attributes.HashAttribute) = refl
+told_apart_always n (rule.Attribute attributes.ListAttribute) = refl
+told_apart_always n (rule.Attribute attributes.DictionaryAttribute) = refl
+told_apart_always n (rule.Attribute attributes.ArrayAttribute) = refl
+told_apart_always n (rule.Attribute attributes.DenseAttribute) = refl
+told_apart_always n (rule.Attribute attributes.NoNumberType) = refl
+told_apart_always n (rule.Attribute attributes.WrittenNumberType) = refl
+told_apart_always n (rule.Attribute attributes.NoHashWords) = refl
+told_apart_always n (rule.Attribute attributes.WrittenHashWords) = refl
+told_apart_always n (rule.Attribute attributes.NoAttributes) = refl
+told_apart_always n (rule.Attribute attributes.FirstAttribute) = refl
+told_apart_always n (rule.Attribute attributes.NoMoreAttributes) = refl
+told_apart_always n (rule.Attribute attributes.NextAttribute) = refl
+told_apart_always n (rule.Attribute attributes.NoArrayNumbers) = refl
+told_apart_always n (rule.Attribute attributes.WrittenArrayNumbers) = refl
+told_apart_always n (rule.Attribute attributes.DenseElements) = refl
+told_apart_always n (rule.Attribute attributes.NumberElement) = refl
+told_apart_always n (rule.Attribute attributes.BoolElement) = refl
+told_apart_always n (rule.Attribute attributes.ListElement) = refl
+told_apart_always n (rule.Attribute attributes.NoElements) = refl
+told_apart_always n (rule.Attribute attributes.FirstElement) = refl
+told_apart_always n (rule.Attribute attributes.NoMoreElements) = refl
+told_apart_always n (rule.Attribute attributes.NextElement) = refl
+told_apart_always n (rule.Attribute attributes.WrittenDictionary) = refl
+told_apart_always n (rule.Attribute attributes.NoEntries) = refl
+told_apart_always n (rule.Attribute attributes.FirstEntry) = refl
+told_apart_always n (rule.Attribute attributes.NoMoreEntries) = refl
+told_apart_always n (rule.Attribute attributes.NextEntry) = refl
+told_apart_always n (rule.Attribute attributes.PlainEntry) = refl
+told_apart_always n (rule.Attribute attributes.FunctionTypeEntry) = refl
+told_apart_always n (rule.Attribute attributes.UnitEntry) = refl
+told_apart_always n (rule.Attribute attributes.WrittenEntry) = refl
+told_apart_always n (rule.Attribute attributes.UnitFunctionType) = refl
+told_apart_always n (rule.Attribute attributes.WrittenFunctionType) = refl
+told_apart_always n (rule.Attribute attributes.NoFunctionType) = refl
+told_apart_always n (rule.Attribute attributes.FunctionType) = refl
+told_apart_always n (rule.Attribute attributes.NoDictionary) = refl
+told_apart_always n (rule.Attribute attributes.DictionaryHere) = refl
+told_apart_always n (rule.Attribute attributes.NoAttributesPart) = refl
+told_apart_always n (rule.Attribute attributes.AttributesPart) = refl
+told_apart_always n (rule.Map maps.WrittenMap) = refl
+told_apart_always n (rule.Map maps.WrittenSet) = refl
+told_apart_always n (rule.Map maps.DimensionNames) = refl
+told_apart_always n (rule.Map maps.NoSymbolNames) = refl
+told_apart_always n (rule.Map maps.WrittenSymbolNames) = refl
+told_apart_always n (rule.Map maps.NoWords) = refl
+told_apart_always n (rule.Map maps.FirstWord) = refl
+told_apart_always n (rule.Map maps.NoMoreWords) = refl
+told_apart_always n (rule.Map maps.NextWord) = refl
+told_apart_always n (rule.Map maps.NoExpressions) = refl
+told_apart_always n (rule.Map maps.FirstExpression) = refl
+told_apart_always n (rule.Map maps.NoMoreExpressions) = refl
+told_apart_always n (rule.Map maps.NextExpression) = refl
+told_apart_always n (rule.Map maps.NoSetRows) = refl
+told_apart_always n (rule.Map maps.FirstSetRow) = refl
+told_apart_always n (rule.Map maps.NoMoreSetRows) = refl
+told_apart_always n (rule.Map maps.NextSetRow) = refl
+told_apart_always n (rule.Map maps.RowOfSet) = refl
+told_apart_always n (rule.Map maps.AtLeastZero) = refl
+told_apart_always n (rule.Map maps.EqualToZero) = refl
+told_apart_always n (rule.Map maps.WholeExpression) = refl
+told_apart_always n (rule.Map maps.NoMoreTerms) = refl
+told_apart_always n (rule.Map maps.PlusTerm) = refl
+told_apart_always n (rule.Map maps.MinusTerm) = refl
+told_apart_always n (rule.Map maps.WholeTerm) = refl
+told_apart_always n (rule.Map maps.NoMoreFactors) = refl
+told_apart_always n (rule.Map maps.TimesFactor) = refl
+told_apart_always n (rule.Map maps.DivisionFactor) = refl
+told_apart_always n (rule.Map maps.NumberFactor) = refl
+told_apart_always n (rule.Map maps.PlainFactor) = refl
+told_apart_always n (rule.Map maps.MinusFactor) = refl
+told_apart_always n (rule.Map maps.NegativeNumber) = refl
+told_apart_always n (rule.Map maps.NegatedBase) = refl
+told_apart_always n (rule.Map maps.ParameterName) = refl
+told_apart_always n (rule.Map maps.DivisionName) = refl
+told_apart_always n (rule.Map maps.InBrackets) = refl
+told_apart_always n (rule.Value values.NamedValue) = refl
+told_apart_always n (rule.Value values.NoResultNumber) = refl
+told_apart_always n (rule.Value values.WrittenResultNumber) = refl
+told_apart_always n (rule.Value values.NoValues) = refl
+told_apart_always n (rule.Value values.FirstValue) = refl
+told_apart_always n (rule.Value values.NoMoreValues) = refl
+told_apart_always n (rule.Value values.NextValue) = refl
+told_apart_always n (rule.Value values.NoFurtherValue) = refl
+told_apart_always n (rule.Value values.FurtherValue) = refl
+told_apart_always n (rule.Value values.PlainInteger) = refl
+told_apart_always n (rule.Value values.NegativeInteger) = refl
+told_apart_always n (rule.Value values.NoIntegers) = refl
+told_apart_always n (rule.Value values.FirstInteger) = refl
+told_apart_always n (rule.Value values.NoMoreIntegers) = refl
+told_apart_always n (rule.Value values.NextInteger) = refl
+told_apart_always n (rule.Value values.ResultNames) = refl
+told_apart_always n (rule.Value values.NoMoreResults) = refl
+told_apart_always n (rule.Value values.NextResult) = refl
+told_apart_always n (rule.Value values.OneResult) = refl
+told_apart_always n (rule.Value values.CountedResults) = refl
+told_apart_always n (rule.Arith arith.BoolConstant) = refl
+told_apart_always n (rule.Arith arith.NumberConstant) = refl
+told_apart_always n (rule.Arith arith.DenseConstant) = refl
+told_apart_always n (rule.Arith arith.NoOverflow) = refl
+told_apart_always n (rule.Arith arith.WrittenOverflow) = refl
+told_apart_always n (rule.Arith arith.NoMoreOverflowFlags) = refl
+told_apart_always n (rule.Arith arith.NextOverflowFlag) = refl
+told_apart_always n (rule.Arith arith.ScalarSelected) = refl
+told_apart_always n (rule.Arith arith.BufferSelected) = refl
+told_apart_always n (rule.Arith arith.VectorThenSelected) = refl
+told_apart_always n (rule.Arith arith.OnlySelected) = refl
+told_apart_always n (rule.Arith arith.SelectedByVector) = refl
+told_apart_always n (rule.Affine affine.GreatestOf) = refl
+told_apart_always n (rule.Affine affine.PlainLowerBound) = refl
+told_apart_always n (rule.Affine affine.LeastOf) = refl
+told_apart_always n (rule.Affine affine.PlainUpperBound) = refl
+told_apart_always n (rule.Affine affine.NumberBound) = refl
+told_apart_always n (rule.Affine affine.ValueBound) = refl
+told_apart_always n (rule.Affine affine.MapBound) = refl
+told_apart_always n (rule.Affine affine.NoStep) = refl
+told_apart_always n (rule.Affine affine.WrittenStep) = refl
+told_apart_always n (rule.Affine affine.NoIterArgs) = refl
+told_apart_always n (rule.Affine affine.WrittenIterArgs) = refl
+told_apart_always n (rule.Affine affine.NoCarried) = refl
+told_apart_always n (rule.Affine affine.FirstCarried) = refl
+told_apart_always n (rule.Affine affine.NoMoreCarried) = refl
+told_apart_always n (rule.Affine affine.NextCarried) = refl
+told_apart_always n (rule.Affine affine.MapWritten) = refl
+told_apart_always n (rule.Affine affine.MapByAlias) = refl
+told_apart_always n (rule.Affine affine.SetWritten) = refl
+told_apart_always n (rule.Affine affine.SetByAlias) = refl
+told_apart_always n (rule.Affine affine.DimensionOperands) = refl
+told_apart_always n (rule.Affine affine.NoSymbolOperands) = refl
+told_apart_always n (rule.Affine affine.WrittenSymbolOperands) = refl
+told_apart_always n (rule.Affine affine.NoElse) = refl
+told_apart_always n (rule.Affine affine.WrittenElse) = refl
+told_apart_always n (rule.Subscript subscripts.NoSubscripts) = refl
+told_apart_always n (rule.Subscript subscripts.FirstSubscript) = refl
+told_apart_always n (rule.Subscript subscripts.NoMoreSubscripts) = refl
+told_apart_always n (rule.Subscript subscripts.NextSubscript) = refl
+told_apart_always n (rule.Subscript subscripts.WholeSubscript) = refl
+told_apart_always n (rule.Subscript subscripts.NoMoreSubscriptTerms) = refl
+told_apart_always n (rule.Subscript subscripts.PlusSubscriptTerm) = refl
+told_apart_always n (rule.Subscript subscripts.MinusSubscriptTerm) = refl
+told_apart_always n (rule.Subscript subscripts.WholeSubscriptTerm) = refl
+told_apart_always n (rule.Subscript subscripts.NoMoreSubscriptFactors) = refl
+told_apart_always n (rule.Subscript subscripts.TimesSubscriptFactor) = refl
+told_apart_always n (rule.Subscript subscripts.DivisionSubscriptFactor) = refl
+told_apart_always n (rule.Subscript subscripts.NumberSubscriptFactor) = refl
+told_apart_always n (rule.Subscript subscripts.PlainSubscriptFactor) = refl
+told_apart_always n (rule.Subscript subscripts.MinusSubscriptFactor) = refl
+told_apart_always n (rule.Subscript subscripts.NegativeSubscriptNumber) = refl
+told_apart_always n (rule.Subscript subscripts.NegatedSubscriptBase) = refl
+told_apart_always n (rule.Subscript subscripts.DimensionValue) = refl
+told_apart_always n (rule.Subscript subscripts.SymbolValue) = refl
+told_apart_always n (rule.Subscript subscripts.SubscriptInBrackets) = refl
+
+rule_at : (r : Rule) → get_or (all_rules (operation_of r)) (rule_number r) (rule.File file.WholeFile) ≡ r
+unfolding rule_number operation_of all_rules
+rule_at (rule.Operation n) = refl
 rule_at (rule.File file.WholeFile) = refl
 rule_at (rule.File file.NoMoreAliases) = refl
 rule_at (rule.File file.NextAlias) = refl
@@ -623,12 +661,6 @@ rule_at (rule.Value values.NoMoreResults) = refl
 rule_at (rule.Value values.NextResult) = refl
 rule_at (rule.Value values.OneResult) = refl
 rule_at (rule.Value values.CountedResults) = refl
-rule_at (rule.Arith arith.ArithConstant) = refl
-rule_at (rule.Arith arith.ArithOverflowing) = refl
-rule_at (rule.Arith arith.ArithBinary) = refl
-rule_at (rule.Arith arith.ArithCmpi) = refl
-rule_at (rule.Arith arith.ArithSelect) = refl
-rule_at (rule.Arith arith.ArithCast) = refl
 rule_at (rule.Arith arith.BoolConstant) = refl
 rule_at (rule.Arith arith.NumberConstant) = refl
 rule_at (rule.Arith arith.DenseConstant) = refl
@@ -641,11 +673,6 @@ rule_at (rule.Arith arith.BufferSelected) = refl
 rule_at (rule.Arith arith.VectorThenSelected) = refl
 rule_at (rule.Arith arith.OnlySelected) = refl
 rule_at (rule.Arith arith.SelectedByVector) = refl
-rule_at (rule.Affine affine.AffineFor) = refl
-rule_at (rule.Affine affine.AffineIf) = refl
-rule_at (rule.Affine affine.AffineMapOp) = refl
-rule_at (rule.Affine affine.AffineLoad) = refl
-rule_at (rule.Affine affine.AffineStore) = refl
 rule_at (rule.Affine affine.GreatestOf) = refl
 rule_at (rule.Affine affine.PlainLowerBound) = refl
 rule_at (rule.Affine affine.LeastOf) = refl
@@ -690,44 +717,9 @@ rule_at (rule.Subscript subscripts.NegatedSubscriptBase) = refl
 rule_at (rule.Subscript subscripts.DimensionValue) = refl
 rule_at (rule.Subscript subscripts.SymbolValue) = refl
 rule_at (rule.Subscript subscripts.SubscriptInBrackets) = refl
-rule_at (rule.MemRef memref.MemRefLoad) = refl
-rule_at (rule.MemRef memref.MemRefStore) = refl
-rule_at (rule.MemRef memref.MemRefDim) = refl
-rule_at (rule.Scf scf.ScfFor) = refl
-rule_at (rule.Vector vector.VectorLoad) = refl
-rule_at (rule.Vector vector.VectorStore) = refl
-rule_at (rule.Vector vector.VectorMaskedLoad) = refl
-rule_at (rule.Vector vector.VectorMaskedStore) = refl
-rule_at (rule.Vector vector.VectorBroadcast) = refl
-rule_at (rule.Vector vector.VectorCreateMask) = refl
-rule_at (rule.Vector vector.VectorReduction) = refl
-rule_at (rule.Vector vector.VectorExtract) = refl
-rule_at (rule.Vector vector.VectorInsert) = refl
-rule_at (rule.Vector vector.VectorShuffle) = refl
-rule_at (rule.Vector vector.VectorStep) = refl
-rule_at (rule.Vector vector.VectorVscale) = refl
-
-pub both : (a b : Bool) → IsTrue (a && b) → IsTrue a × IsTrue b
-both true b t = (refl, t)
-both false b t = absurd (cc)
-
-pub implied : (a b : Bool) → IsTrue (implies a b) → IsTrue a → IsTrue b
-implied true b h t = h
-implied false b h t = absurd (cc)
-
-all-at : (p : Class → Bool) (cs : List Class) (k : ℕ) → IsTrue (all_of p cs) → IsTrue (p class.End) → IsTrue (p (get_or cs k class.End))
-all-at p [] k h e = e
-all-at p (c ∷ cs) zero h e = (both _ _ h).0
-all-at p (c ∷ cs) (suc k) h e = all-at p cs k (both _ _ h).1 e
-
-end-first : (p : Class → Bool) → IsTrue (all_of p all_classes) → IsTrue (p class.End)
-unfolding all_classes
-end-first p h = (both _ _ h).0
 
 told-apart : (r : Rule) (c : Class) → IsTrue (is_told_apart r c)
-told-apart r c =
-    let always : IsTrue (all_of (is_told_apart r) all_classes) = told_apart_always r in
-    subst (λ (k : Class). IsTrue (is_told_apart r k)) (class_at c) (all-at (is_told_apart r) all_classes (class_number c) always (end-first (is_told_apart r) always))
+told-apart r c = for-each (is_told_apart r) (λ n. told_apart_always n r) c
 
 pub first-of-row : (r : Rule) (c : Class) → IsTrue (starts (symbols_of r) c) → IsTrue (has (first_of (name_of r)) c)
 first-of-row r c = implied _ _ (both _ _ (told-apart r c)).0
@@ -735,18 +727,10 @@ first-of-row r c = implied _ _ (both _ _ (told-apart r c)).0
 same-rule : (a b : Rule) → IsTrue (is_same_rule a b) → a ≡ b
 unfolding is_same_rule
 same-rule a b t =
-    let e : rule_number a ≡ rule_number b = eqb-true (rule_number a) (rule_number b) t in
-    sym (rule_at a) ∙ ap (λ (k : ℕ). get_or all_rules k (rule.File file.WholeFile)) e ∙ rule_at b
-
-pub same-class : (a b : Class) → IsTrue (is_same_class a b) → a ≡ b
-unfolding is_same_class
-same-class a b t =
-    let e : class_number a ≡ class_number b = eqb-true (class_number a) (class_number b) t in
-    sym (class_at a) ∙ ap (λ (k : ℕ). get_or all_classes k class.End) e ∙ class_at b
-
-pub same-as-itself : (c : Class) → IsTrue (is_same_class c c)
-unfolding is_same_class
-same-as-itself c = eq-eqb (class_number c) (class_number c) refl
+    let h = both _ _ t in
+    let e : rule_number a ≡ rule_number b = eqb-true (rule_number a) (rule_number b) h.0 in
+    let f : operation_of a ≡ operation_of b = eqb-true (operation_of a) (operation_of b) h.1 in
+    sym (rule_at a) ∙ rw (e, f) (rule_at b)
 
 -- The row that can begin with the token is the one that is chosen.
 pub choice-of-row : (r : Rule) (c : Class) → IsTrue (starts_before (symbols_of r) (name_of r) c) → choice_of (name_of r) c ≡ r

@@ -1,5 +1,5 @@
 -- The brackets that a row needs are those that its symbols need: checked for each row.
-use Rattle.std.proofs.Common.{◌≡◌, ℕ, suc, ◌+◌, ◌-◌, ◌≤◌, max, Bool, ◌&&◌, nat_le, IsTrue, List, [], ◌∷◌, ◌++◌, refl, arith}
+use Rattle.std.proofs.Common.{◌≡◌, ℕ, suc, ◌+◌, ◌-◌, ◌≤◌, max, Bool, ◌&&◌, nat_eq, nat_le, IsTrue, List, [], ◌∷◌, ◌++◌, refl, arith}
 use Rattle.std.proofs.lemmas.Bool.Decides.{nat_tests}
 use Rattle.av_tree.specs.declared.class.Class.{Class}
 use Rattle.av_tree.specs.declared.class.Class.TheVariants as class
@@ -32,13 +32,15 @@ use Rattle.av_tree.specs.declared.table.values.ValueRule.TheVariants as values
 use Rattle.av_tree.specs.declared.table.arith.ArithRule.TheVariants as arith
 use Rattle.av_tree.specs.declared.table.affine.AffineRule.TheVariants as affine
 use Rattle.av_tree.specs.declared.table.subscripts.SubscriptRule.TheVariants as subscripts
-use Rattle.av_tree.specs.declared.table.memref.MemRefRule.TheVariants as memref
-use Rattle.av_tree.specs.declared.table.scf.ScfRule.TheVariants as scf
-use Rattle.av_tree.specs.declared.table.vector.VectorRule.TheVariants as vector
 use Rattle.av_tree.specs.Classes.{fits_of, bracket_of}
 use Rattle.av_tree.specs.Needs.{need_of}
+use Rattle.av_dialects.specs.Rows.{Part, forms}
+use Rattle.av_tree.specs.Forms.{form_symbols, need_of_form}
 use Rattle.av_tree.specs.Table.{symbols_of, name_of}
 use Rattle.av_tree.proofs.Choice.{both}
+use Rattle.av_tree.proofs.Forms.{of-form}
+use Rattle.std.specs.List.{list_all}
+use Rattle.std.proofs.lemmas.Bool.{eqb-true}
 
 -- the least number of further brackets that are open at once in whatever a name derives
 abbrev pub need_of_name : Name → ℕ
@@ -97,7 +99,22 @@ downs (_ ∷ rest) = downs rest
 abbrev is_balanced : Rule → Bool
 is_balanced r = nat_le (need_of_name (name_of r)) (lift (symbols_of r)) && nat_le (downs (symbols_of r)) (ups (symbols_of r))
 
+abbrev is_balanced_form : List Part → Bool
+is_balanced_form ps = nat_le 0 (lift (form_symbols ps)) && nat_le (downs (form_symbols ps)) (ups (form_symbols ps))
+
+balanced-forms : IsTrue (list_all is_balanced_form forms)
+unfolding forms
+balanced-forms = refl
+
+abbrev needs_so_many : List Part → Bool
+needs_so_many ps = nat_eq (need_of_form ps) (lift (form_symbols ps))
+
+needs-of-forms : IsTrue (list_all needs_so_many forms)
+unfolding forms
+needs-of-forms = refl
+
 balanced : (r : Rule) → IsTrue (is_balanced r)
+balanced (rule.Operation n) = of-form is_balanced_form refl balanced-forms n
 balanced (rule.File file.WholeFile) = refl
 balanced (rule.File file.NoMoreAliases) = refl
 balanced (rule.File file.NextAlias) = refl
@@ -284,12 +301,6 @@ balanced (rule.Value values.NoMoreResults) = refl
 balanced (rule.Value values.NextResult) = refl
 balanced (rule.Value values.OneResult) = refl
 balanced (rule.Value values.CountedResults) = refl
-balanced (rule.Arith arith.ArithConstant) = refl
-balanced (rule.Arith arith.ArithOverflowing) = refl
-balanced (rule.Arith arith.ArithBinary) = refl
-balanced (rule.Arith arith.ArithCmpi) = refl
-balanced (rule.Arith arith.ArithSelect) = refl
-balanced (rule.Arith arith.ArithCast) = refl
 balanced (rule.Arith arith.BoolConstant) = refl
 balanced (rule.Arith arith.NumberConstant) = refl
 balanced (rule.Arith arith.DenseConstant) = refl
@@ -302,11 +313,6 @@ balanced (rule.Arith arith.BufferSelected) = refl
 balanced (rule.Arith arith.VectorThenSelected) = refl
 balanced (rule.Arith arith.OnlySelected) = refl
 balanced (rule.Arith arith.SelectedByVector) = refl
-balanced (rule.Affine affine.AffineFor) = refl
-balanced (rule.Affine affine.AffineIf) = refl
-balanced (rule.Affine affine.AffineMapOp) = refl
-balanced (rule.Affine affine.AffineLoad) = refl
-balanced (rule.Affine affine.AffineStore) = refl
 balanced (rule.Affine affine.GreatestOf) = refl
 balanced (rule.Affine affine.PlainLowerBound) = refl
 balanced (rule.Affine affine.LeastOf) = refl
@@ -351,24 +357,9 @@ balanced (rule.Subscript subscripts.NegatedSubscriptBase) = refl
 balanced (rule.Subscript subscripts.DimensionValue) = refl
 balanced (rule.Subscript subscripts.SymbolValue) = refl
 balanced (rule.Subscript subscripts.SubscriptInBrackets) = refl
-balanced (rule.MemRef memref.MemRefLoad) = refl
-balanced (rule.MemRef memref.MemRefStore) = refl
-balanced (rule.MemRef memref.MemRefDim) = refl
-balanced (rule.Scf scf.ScfFor) = refl
-balanced (rule.Vector vector.VectorLoad) = refl
-balanced (rule.Vector vector.VectorStore) = refl
-balanced (rule.Vector vector.VectorMaskedLoad) = refl
-balanced (rule.Vector vector.VectorMaskedStore) = refl
-balanced (rule.Vector vector.VectorBroadcast) = refl
-balanced (rule.Vector vector.VectorCreateMask) = refl
-balanced (rule.Vector vector.VectorReduction) = refl
-balanced (rule.Vector vector.VectorExtract) = refl
-balanced (rule.Vector vector.VectorInsert) = refl
-balanced (rule.Vector vector.VectorShuffle) = refl
-balanced (rule.Vector vector.VectorStep) = refl
-balanced (rule.Vector vector.VectorVscale) = refl
 
 pub need-of-symbols : (r : Rule) → need_of r ≡ lift (symbols_of r)
+need-of-symbols (rule.Operation n) = eqb-true _ _ (of-form needs_so_many refl needs-of-forms n)
 need-of-symbols (rule.File file.WholeFile) = refl
 need-of-symbols (rule.File file.NoMoreAliases) = refl
 need-of-symbols (rule.File file.NextAlias) = refl
@@ -555,12 +546,6 @@ need-of-symbols (rule.Value values.NoMoreResults) = refl
 need-of-symbols (rule.Value values.NextResult) = refl
 need-of-symbols (rule.Value values.OneResult) = refl
 need-of-symbols (rule.Value values.CountedResults) = refl
-need-of-symbols (rule.Arith arith.ArithConstant) = refl
-need-of-symbols (rule.Arith arith.ArithOverflowing) = refl
-need-of-symbols (rule.Arith arith.ArithBinary) = refl
-need-of-symbols (rule.Arith arith.ArithCmpi) = refl
-need-of-symbols (rule.Arith arith.ArithSelect) = refl
-need-of-symbols (rule.Arith arith.ArithCast) = refl
 need-of-symbols (rule.Arith arith.BoolConstant) = refl
 need-of-symbols (rule.Arith arith.NumberConstant) = refl
 need-of-symbols (rule.Arith arith.DenseConstant) = refl
@@ -573,11 +558,6 @@ need-of-symbols (rule.Arith arith.BufferSelected) = refl
 need-of-symbols (rule.Arith arith.VectorThenSelected) = refl
 need-of-symbols (rule.Arith arith.OnlySelected) = refl
 need-of-symbols (rule.Arith arith.SelectedByVector) = refl
-need-of-symbols (rule.Affine affine.AffineFor) = refl
-need-of-symbols (rule.Affine affine.AffineIf) = refl
-need-of-symbols (rule.Affine affine.AffineMapOp) = refl
-need-of-symbols (rule.Affine affine.AffineLoad) = refl
-need-of-symbols (rule.Affine affine.AffineStore) = refl
 need-of-symbols (rule.Affine affine.GreatestOf) = refl
 need-of-symbols (rule.Affine affine.PlainLowerBound) = refl
 need-of-symbols (rule.Affine affine.LeastOf) = refl
@@ -622,22 +602,6 @@ need-of-symbols (rule.Subscript subscripts.NegatedSubscriptBase) = refl
 need-of-symbols (rule.Subscript subscripts.DimensionValue) = refl
 need-of-symbols (rule.Subscript subscripts.SymbolValue) = refl
 need-of-symbols (rule.Subscript subscripts.SubscriptInBrackets) = refl
-need-of-symbols (rule.MemRef memref.MemRefLoad) = refl
-need-of-symbols (rule.MemRef memref.MemRefStore) = refl
-need-of-symbols (rule.MemRef memref.MemRefDim) = refl
-need-of-symbols (rule.Scf scf.ScfFor) = refl
-need-of-symbols (rule.Vector vector.VectorLoad) = refl
-need-of-symbols (rule.Vector vector.VectorStore) = refl
-need-of-symbols (rule.Vector vector.VectorMaskedLoad) = refl
-need-of-symbols (rule.Vector vector.VectorMaskedStore) = refl
-need-of-symbols (rule.Vector vector.VectorBroadcast) = refl
-need-of-symbols (rule.Vector vector.VectorCreateMask) = refl
-need-of-symbols (rule.Vector vector.VectorReduction) = refl
-need-of-symbols (rule.Vector vector.VectorExtract) = refl
-need-of-symbols (rule.Vector vector.VectorInsert) = refl
-need-of-symbols (rule.Vector vector.VectorShuffle) = refl
-need-of-symbols (rule.Vector vector.VectorStep) = refl
-need-of-symbols (rule.Vector vector.VectorVscale) = refl
 
 at-most : (a b : ℕ) → IsTrue (nat_le a b) → a ≤ b
 at-most a b t = grind (arith, nat_tests)
@@ -700,11 +664,7 @@ no-bracket test.Word (class.Sign s) h = absurd (cc)
 no-bracket test.Parameter (class.Sign s) h = absurd (cc)
 no-bracket test.EntryName (class.Sign s) h = absurd (cc)
 no-bracket test.Terminator (class.Sign s) h = absurd (cc)
-no-bracket test.Overflowing (class.Sign s) h = absurd (cc)
-no-bracket test.Binary (class.Sign s) h = absurd (cc)
-no-bracket test.Cast (class.Sign s) h = absurd (cc)
 no-bracket test.Predicate (class.Sign s) h = absurd (cc)
-no-bracket test.MapOp (class.Sign s) h = absurd (cc)
 no-bracket test.Kind (class.Sign s) h = absurd (cc)
 no-bracket test.Bool (class.Sign s) h = absurd (cc)
 no-bracket test.Visibility (class.Sign s) h = absurd (cc)

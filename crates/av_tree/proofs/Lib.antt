@@ -1,3 +1,4 @@
+pub mod Forms
 pub mod Lighter
 pub mod Choice
 pub mod Depth

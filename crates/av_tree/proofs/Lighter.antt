@@ -13,9 +13,6 @@ use Rattle.av_tree.specs.declared.table.values.ValueRule.TheVariants as values
 use Rattle.av_tree.specs.declared.table.arith.ArithRule.TheVariants as arith
 use Rattle.av_tree.specs.declared.table.affine.AffineRule.TheVariants as affine
 use Rattle.av_tree.specs.declared.table.subscripts.SubscriptRule.TheVariants as subscripts
-use Rattle.av_tree.specs.declared.table.memref.MemRefRule.TheVariants as memref
-use Rattle.av_tree.specs.declared.table.scf.ScfRule.TheVariants as scf
-use Rattle.av_tree.specs.declared.table.vector.VectorRule.TheVariants as vector
 use Rattle.av_tree.specs.Table.{is_lighter}
 
 pub lighter : (r : Rule) → IsTrue (is_lighter r)
@@ -205,12 +202,6 @@ lighter (rule.Value values.NoMoreResults) = refl
 lighter (rule.Value values.NextResult) = refl
 lighter (rule.Value values.OneResult) = refl
 lighter (rule.Value values.CountedResults) = refl
-lighter (rule.Arith arith.ArithConstant) = refl
-lighter (rule.Arith arith.ArithOverflowing) = refl
-lighter (rule.Arith arith.ArithBinary) = refl
-lighter (rule.Arith arith.ArithCmpi) = refl
-lighter (rule.Arith arith.ArithSelect) = refl
-lighter (rule.Arith arith.ArithCast) = refl
 lighter (rule.Arith arith.BoolConstant) = refl
 lighter (rule.Arith arith.NumberConstant) = refl
 lighter (rule.Arith arith.DenseConstant) = refl
@@ -223,11 +214,6 @@ lighter (rule.Arith arith.BufferSelected) = refl
 lighter (rule.Arith arith.VectorThenSelected) = refl
 lighter (rule.Arith arith.OnlySelected) = refl
 lighter (rule.Arith arith.SelectedByVector) = refl
-lighter (rule.Affine affine.AffineFor) = refl
-lighter (rule.Affine affine.AffineIf) = refl
-lighter (rule.Affine affine.AffineMapOp) = refl
-lighter (rule.Affine affine.AffineLoad) = refl
-lighter (rule.Affine affine.AffineStore) = refl
 lighter (rule.Affine affine.GreatestOf) = refl
 lighter (rule.Affine affine.PlainLowerBound) = refl
 lighter (rule.Affine affine.LeastOf) = refl
@@ -272,19 +258,4 @@ lighter (rule.Subscript subscripts.NegatedSubscriptBase) = refl
 lighter (rule.Subscript subscripts.DimensionValue) = refl
 lighter (rule.Subscript subscripts.SymbolValue) = refl
 lighter (rule.Subscript subscripts.SubscriptInBrackets) = refl
-lighter (rule.MemRef memref.MemRefLoad) = refl
-lighter (rule.MemRef memref.MemRefStore) = refl
-lighter (rule.MemRef memref.MemRefDim) = refl
-lighter (rule.Scf scf.ScfFor) = refl
-lighter (rule.Vector vector.VectorLoad) = refl
-lighter (rule.Vector vector.VectorStore) = refl
-lighter (rule.Vector vector.VectorMaskedLoad) = refl
-lighter (rule.Vector vector.VectorMaskedStore) = refl
-lighter (rule.Vector vector.VectorBroadcast) = refl
-lighter (rule.Vector vector.VectorCreateMask) = refl
-lighter (rule.Vector vector.VectorReduction) = refl
-lighter (rule.Vector vector.VectorExtract) = refl
-lighter (rule.Vector vector.VectorInsert) = refl
-lighter (rule.Vector vector.VectorShuffle) = refl
-lighter (rule.Vector vector.VectorStep) = refl
-lighter (rule.Vector vector.VectorVscale) = refl
+lighter (rule.Operation n) = refl

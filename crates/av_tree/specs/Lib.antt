@@ -1,4 +1,5 @@
 pub mod Classes
+pub mod Forms
 pub mod Needs
 pub mod Sets
 pub mod Signs

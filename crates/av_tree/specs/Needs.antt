@@ -12,9 +12,8 @@ use Rattle.av_tree.specs.declared.table.maps.MapRule.TheVariants as maps
 use Rattle.av_tree.specs.declared.table.arith.ArithRule.TheVariants as arith
 use Rattle.av_tree.specs.declared.table.affine.AffineRule.TheVariants as affine
 use Rattle.av_tree.specs.declared.table.subscripts.SubscriptRule.TheVariants as subscripts
-use Rattle.av_tree.specs.declared.table.memref.MemRefRule.TheVariants as memref
-use Rattle.av_tree.specs.declared.table.scf.ScfRule.TheVariants as scf
-use Rattle.av_tree.specs.declared.table.vector.VectorRule.TheVariants as vector
+use Rattle.av_dialects.specs.Rows.{form_of}
+use Rattle.av_tree.specs.Forms.{need_of_form}
 
 -- the least number of further brackets that are open at once in whatever a row derives
 abbrev pub need_of : Rule → ℕ
@@ -70,11 +69,6 @@ need_of (rule.Arith arith.DenseConstant) = 1
 need_of (rule.Arith arith.WrittenOverflow) = 1
 need_of (rule.Arith arith.BufferSelected) = 1
 need_of (rule.Arith arith.VectorThenSelected) = 1
-need_of (rule.Affine affine.AffineFor) = 1
-need_of (rule.Affine affine.AffineIf) = 1
-need_of (rule.Affine affine.AffineMapOp) = 1
-need_of (rule.Affine affine.AffineLoad) = 1
-need_of (rule.Affine affine.AffineStore) = 1
 need_of (rule.Affine affine.GreatestOf) = 1
 need_of (rule.Affine affine.LeastOf) = 1
 need_of (rule.Affine affine.MapBound) = 1
@@ -88,19 +82,5 @@ need_of (rule.Affine affine.WrittenSymbolOperands) = 1
 need_of (rule.Affine affine.WrittenElse) = 1
 need_of (rule.Subscript subscripts.SymbolValue) = 1
 need_of (rule.Subscript subscripts.SubscriptInBrackets) = 1
-need_of (rule.MemRef memref.MemRefLoad) = 1
-need_of (rule.MemRef memref.MemRefStore) = 1
-need_of (rule.MemRef memref.MemRefDim) = 1
-need_of (rule.Scf scf.ScfFor) = 1
-need_of (rule.Vector vector.VectorLoad) = 1
-need_of (rule.Vector vector.VectorStore) = 1
-need_of (rule.Vector vector.VectorMaskedLoad) = 1
-need_of (rule.Vector vector.VectorMaskedStore) = 1
-need_of (rule.Vector vector.VectorBroadcast) = 1
-need_of (rule.Vector vector.VectorCreateMask) = 1
-need_of (rule.Vector vector.VectorReduction) = 1
-need_of (rule.Vector vector.VectorExtract) = 1
-need_of (rule.Vector vector.VectorInsert) = 1
-need_of (rule.Vector vector.VectorShuffle) = 1
-need_of (rule.Vector vector.VectorStep) = 1
+need_of (rule.Operation n) = need_of_form (form_of n)
 need_of _ = 0

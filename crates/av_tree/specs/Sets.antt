@@ -1,5 +1,5 @@
 -- Classes and rows as numbers, and which classes can come first in a name and after it.
-use Rattle.std.specs.Prelude.{ℕ, ◌/◌, ◌%◌, ◌^◌, Bool, nat_eq, List, [], ◌∷◌}
+use Rattle.std.specs.Prelude.{ℕ, ◌/◌, ◌%◌, ◌^◌, Bool, ◌&&◌, nat_eq, List, [], ◌∷◌}
 use Rattle.av_lex.specs.declared.token.Sign.TheVariants as sign
 use Rattle.av_tree.specs.declared.class.Class.{Class}
 use Rattle.av_tree.specs.declared.class.Class.TheVariants as class
@@ -30,10 +30,8 @@ use Rattle.av_tree.specs.declared.table.values.ValueRule.TheVariants as values
 use Rattle.av_tree.specs.declared.table.arith.ArithRule.TheVariants as arith
 use Rattle.av_tree.specs.declared.table.affine.AffineRule.TheVariants as affine
 use Rattle.av_tree.specs.declared.table.subscripts.SubscriptRule.TheVariants as subscripts
-use Rattle.av_tree.specs.declared.table.memref.MemRefRule.TheVariants as memref
-use Rattle.av_tree.specs.declared.table.scf.ScfRule.TheVariants as scf
-use Rattle.av_tree.specs.declared.table.vector.VectorRule.TheVariants as vector
 
+-- the numbers of classes; all operations have one
 unfoldable pub class_number : Class → ℕ
 class_number class.End = 0
 class_number (class.Sign sign.OpenRound) = 1
@@ -56,78 +54,58 @@ class_number (class.Sign sign.AtLeast) = 17
 class_number (class.Sign sign.EqualEqual) = 18
 class_number (class.Word key.Module) = 19
 class_number (class.Word key.FuncFunc) = 20
-class_number (class.Word key.ArithConstant) = 21
-class_number (class.Word key.ArithCmpi) = 22
-class_number (class.Word key.ArithSelect) = 23
-class_number (class.Word key.AffineFor) = 24
-class_number (class.Word key.AffineIf) = 25
-class_number (class.Word key.AffineLoad) = 26
-class_number (class.Word key.AffineStore) = 27
-class_number (class.Word key.MemRefLoad) = 28
-class_number (class.Word key.MemRefStore) = 29
-class_number (class.Word key.MemRefDim) = 30
-class_number (class.Word key.ScfFor) = 31
-class_number (class.Word key.VectorLoad) = 32
-class_number (class.Word key.VectorStore) = 33
-class_number (class.Word key.VectorMaskedLoad) = 34
-class_number (class.Word key.VectorMaskedStore) = 35
-class_number (class.Word key.VectorBroadcast) = 36
-class_number (class.Word key.VectorCreateMask) = 37
-class_number (class.Word key.VectorReduction) = 38
-class_number (class.Word key.VectorExtract) = 39
-class_number (class.Word key.VectorInsert) = 40
-class_number (class.Word key.VectorShuffle) = 41
-class_number (class.Word key.VectorStep) = 42
-class_number (class.Word key.VectorVscale) = 43
-class_number (class.Word key.MemRef) = 44
-class_number (class.Word key.Vector) = 45
-class_number (class.Word key.Strided) = 46
-class_number (class.Word key.Offset) = 47
-class_number (class.Word key.AffineMap) = 48
-class_number (class.Word key.AffineSet) = 49
-class_number (class.Word key.Array) = 50
-class_number (class.Word key.Dense) = 51
-class_number (class.Word key.FunctionType) = 52
-class_number (class.Word key.Symbol) = 53
-class_number (class.Word key.Overflow) = 54
-class_number (class.Word key.Attributes) = 55
-class_number (class.Word key.To) = 56
-class_number (class.Word key.Step) = 57
-class_number (class.Word key.IterArgs) = 58
-class_number (class.Word key.Else) = 59
-class_number (class.Word key.Into) = 60
-class_number (class.Word key.From) = 61
-class_number (class.Word key.Min) = 62
-class_number (class.Word key.Max) = 63
-class_number (class.Word key.Terminator) = 64
-class_number (class.Word key.Overflowing) = 65
-class_number (class.Word key.Binary) = 66
-class_number (class.Word key.Cast) = 67
-class_number (class.Word key.MapOp) = 68
-class_number (class.Word key.Bool) = 69
-class_number (class.Word key.Visibility) = 70
-class_number (class.Word key.OverflowFlag) = 71
-class_number (class.Word key.Division) = 72
-class_number (class.Word key.Kind) = 73
-class_number (class.Word key.Predicate) = 74
-class_number class.Scalar = 75
-class_number class.OtherWord = 76
-class_number class.Zero = 77
-class_number class.Positive = 78
-class_number class.DimX = 79
-class_number class.ScalX = 80
-class_number class.ValId = 81
-class_number class.SymId = 82
-class_number class.HashDigits = 83
-class_number class.HashWord = 84
-class_number class.HashOther = 85
-class_number class.CaretId = 86
-class_number class.QuotedModule = 87
-class_number class.QuotedFunc = 88
-class_number class.Quoted = 89
+class_number (class.Word key.MemRef) = 21
+class_number (class.Word key.Vector) = 22
+class_number (class.Word key.Strided) = 23
+class_number (class.Word key.Offset) = 24
+class_number (class.Word key.AffineMap) = 25
+class_number (class.Word key.AffineSet) = 26
+class_number (class.Word key.Array) = 27
+class_number (class.Word key.Dense) = 28
+class_number (class.Word key.FunctionType) = 29
+class_number (class.Word key.Symbol) = 30
+class_number (class.Word key.Overflow) = 31
+class_number (class.Word key.Attributes) = 32
+class_number (class.Word key.To) = 33
+class_number (class.Word key.Step) = 34
+class_number (class.Word key.IterArgs) = 35
+class_number (class.Word key.Else) = 36
+class_number (class.Word key.Into) = 37
+class_number (class.Word key.From) = 38
+class_number (class.Word key.Min) = 39
+class_number (class.Word key.Max) = 40
+class_number (class.Word key.Terminator) = 41
+class_number (class.Word key.Bool) = 42
+class_number (class.Word key.Visibility) = 43
+class_number (class.Word key.OverflowFlag) = 44
+class_number (class.Word key.Division) = 45
+class_number (class.Word key.Kind) = 46
+class_number (class.Word key.Predicate) = 47
+class_number class.Scalar = 48
+class_number class.OtherWord = 49
+class_number class.Zero = 50
+class_number class.Positive = 51
+class_number class.DimX = 52
+class_number class.ScalX = 53
+class_number class.ValId = 54
+class_number class.SymId = 55
+class_number class.HashDigits = 56
+class_number class.HashWord = 57
+class_number class.HashOther = 58
+class_number class.CaretId = 59
+class_number class.QuotedModule = 60
+class_number class.QuotedFunc = 61
+class_number class.Quoted = 62
+class_number (class.Word (key.Operation n)) = 63
 
-unfoldable pub all_classes : List Class
-all_classes =
+-- the operation that a class names, or 0
+unfoldable pub operation_in : Class → ℕ
+operation_in (class.Word (key.Operation n)) = n
+operation_in _ = 0
+
+-- the classes in the order of their numbers, with that of this operation
+unfoldable pub all_classes : ℕ → List Class
+all_classes n =
     class.End ∷
     (class.Sign sign.OpenRound) ∷
     (class.Sign sign.CloseRound) ∷
@@ -149,29 +127,6 @@ all_classes =
     (class.Sign sign.EqualEqual) ∷
     (class.Word key.Module) ∷
     (class.Word key.FuncFunc) ∷
-    (class.Word key.ArithConstant) ∷
-    (class.Word key.ArithCmpi) ∷
-    (class.Word key.ArithSelect) ∷
-    (class.Word key.AffineFor) ∷
-    (class.Word key.AffineIf) ∷
-    (class.Word key.AffineLoad) ∷
-    (class.Word key.AffineStore) ∷
-    (class.Word key.MemRefLoad) ∷
-    (class.Word key.MemRefStore) ∷
-    (class.Word key.MemRefDim) ∷
-    (class.Word key.ScfFor) ∷
-    (class.Word key.VectorLoad) ∷
-    (class.Word key.VectorStore) ∷
-    (class.Word key.VectorMaskedLoad) ∷
-    (class.Word key.VectorMaskedStore) ∷
-    (class.Word key.VectorBroadcast) ∷
-    (class.Word key.VectorCreateMask) ∷
-    (class.Word key.VectorReduction) ∷
-    (class.Word key.VectorExtract) ∷
-    (class.Word key.VectorInsert) ∷
-    (class.Word key.VectorShuffle) ∷
-    (class.Word key.VectorStep) ∷
-    (class.Word key.VectorVscale) ∷
     (class.Word key.MemRef) ∷
     (class.Word key.Vector) ∷
     (class.Word key.Strided) ∷
@@ -193,10 +148,6 @@ all_classes =
     (class.Word key.Min) ∷
     (class.Word key.Max) ∷
     (class.Word key.Terminator) ∷
-    (class.Word key.Overflowing) ∷
-    (class.Word key.Binary) ∷
-    (class.Word key.Cast) ∷
-    (class.Word key.MapOp) ∷
     (class.Word key.Bool) ∷
     (class.Word key.Visibility) ∷
     (class.Word key.OverflowFlag) ∷
@@ -218,8 +169,10 @@ all_classes =
     class.QuotedModule ∷
     class.QuotedFunc ∷
     class.Quoted ∷
+    class.Word (key.Operation n) ∷
     []
 
+-- the numbers of rows; those of operations have one
 unfoldable pub rule_number : Rule → ℕ
 rule_number (rule.File file.WholeFile) = 0
 rule_number (rule.File file.NoMoreAliases) = 1
@@ -407,92 +360,72 @@ rule_number (rule.Value values.NoMoreResults) = 182
 rule_number (rule.Value values.NextResult) = 183
 rule_number (rule.Value values.OneResult) = 184
 rule_number (rule.Value values.CountedResults) = 185
-rule_number (rule.Arith arith.ArithConstant) = 186
-rule_number (rule.Arith arith.ArithOverflowing) = 187
-rule_number (rule.Arith arith.ArithBinary) = 188
-rule_number (rule.Arith arith.ArithCmpi) = 189
-rule_number (rule.Arith arith.ArithSelect) = 190
-rule_number (rule.Arith arith.ArithCast) = 191
-rule_number (rule.Arith arith.BoolConstant) = 192
-rule_number (rule.Arith arith.NumberConstant) = 193
-rule_number (rule.Arith arith.DenseConstant) = 194
-rule_number (rule.Arith arith.NoOverflow) = 195
-rule_number (rule.Arith arith.WrittenOverflow) = 196
-rule_number (rule.Arith arith.NoMoreOverflowFlags) = 197
-rule_number (rule.Arith arith.NextOverflowFlag) = 198
-rule_number (rule.Arith arith.ScalarSelected) = 199
-rule_number (rule.Arith arith.BufferSelected) = 200
-rule_number (rule.Arith arith.VectorThenSelected) = 201
-rule_number (rule.Arith arith.OnlySelected) = 202
-rule_number (rule.Arith arith.SelectedByVector) = 203
-rule_number (rule.Affine affine.AffineFor) = 204
-rule_number (rule.Affine affine.AffineIf) = 205
-rule_number (rule.Affine affine.AffineMapOp) = 206
-rule_number (rule.Affine affine.AffineLoad) = 207
-rule_number (rule.Affine affine.AffineStore) = 208
-rule_number (rule.Affine affine.GreatestOf) = 209
-rule_number (rule.Affine affine.PlainLowerBound) = 210
-rule_number (rule.Affine affine.LeastOf) = 211
-rule_number (rule.Affine affine.PlainUpperBound) = 212
-rule_number (rule.Affine affine.NumberBound) = 213
-rule_number (rule.Affine affine.ValueBound) = 214
-rule_number (rule.Affine affine.MapBound) = 215
-rule_number (rule.Affine affine.NoStep) = 216
-rule_number (rule.Affine affine.WrittenStep) = 217
-rule_number (rule.Affine affine.NoIterArgs) = 218
-rule_number (rule.Affine affine.WrittenIterArgs) = 219
-rule_number (rule.Affine affine.NoCarried) = 220
-rule_number (rule.Affine affine.FirstCarried) = 221
-rule_number (rule.Affine affine.NoMoreCarried) = 222
-rule_number (rule.Affine affine.NextCarried) = 223
-rule_number (rule.Affine affine.MapWritten) = 224
-rule_number (rule.Affine affine.MapByAlias) = 225
-rule_number (rule.Affine affine.SetWritten) = 226
-rule_number (rule.Affine affine.SetByAlias) = 227
-rule_number (rule.Affine affine.DimensionOperands) = 228
-rule_number (rule.Affine affine.NoSymbolOperands) = 229
-rule_number (rule.Affine affine.WrittenSymbolOperands) = 230
-rule_number (rule.Affine affine.NoElse) = 231
-rule_number (rule.Affine affine.WrittenElse) = 232
-rule_number (rule.Subscript subscripts.NoSubscripts) = 233
-rule_number (rule.Subscript subscripts.FirstSubscript) = 234
-rule_number (rule.Subscript subscripts.NoMoreSubscripts) = 235
-rule_number (rule.Subscript subscripts.NextSubscript) = 236
-rule_number (rule.Subscript subscripts.WholeSubscript) = 237
-rule_number (rule.Subscript subscripts.NoMoreSubscriptTerms) = 238
-rule_number (rule.Subscript subscripts.PlusSubscriptTerm) = 239
-rule_number (rule.Subscript subscripts.MinusSubscriptTerm) = 240
-rule_number (rule.Subscript subscripts.WholeSubscriptTerm) = 241
-rule_number (rule.Subscript subscripts.NoMoreSubscriptFactors) = 242
-rule_number (rule.Subscript subscripts.TimesSubscriptFactor) = 243
-rule_number (rule.Subscript subscripts.DivisionSubscriptFactor) = 244
-rule_number (rule.Subscript subscripts.NumberSubscriptFactor) = 245
-rule_number (rule.Subscript subscripts.PlainSubscriptFactor) = 246
-rule_number (rule.Subscript subscripts.MinusSubscriptFactor) = 247
-rule_number (rule.Subscript subscripts.NegativeSubscriptNumber) = 248
-rule_number (rule.Subscript subscripts.NegatedSubscriptBase) = 249
-rule_number (rule.Subscript subscripts.DimensionValue) = 250
-rule_number (rule.Subscript subscripts.SymbolValue) = 251
-rule_number (rule.Subscript subscripts.SubscriptInBrackets) = 252
-rule_number (rule.MemRef memref.MemRefLoad) = 253
-rule_number (rule.MemRef memref.MemRefStore) = 254
-rule_number (rule.MemRef memref.MemRefDim) = 255
-rule_number (rule.Scf scf.ScfFor) = 256
-rule_number (rule.Vector vector.VectorLoad) = 257
-rule_number (rule.Vector vector.VectorStore) = 258
-rule_number (rule.Vector vector.VectorMaskedLoad) = 259
-rule_number (rule.Vector vector.VectorMaskedStore) = 260
-rule_number (rule.Vector vector.VectorBroadcast) = 261
-rule_number (rule.Vector vector.VectorCreateMask) = 262
-rule_number (rule.Vector vector.VectorReduction) = 263
-rule_number (rule.Vector vector.VectorExtract) = 264
-rule_number (rule.Vector vector.VectorInsert) = 265
-rule_number (rule.Vector vector.VectorShuffle) = 266
-rule_number (rule.Vector vector.VectorStep) = 267
-rule_number (rule.Vector vector.VectorVscale) = 268
+rule_number (rule.Arith arith.BoolConstant) = 186
+rule_number (rule.Arith arith.NumberConstant) = 187
+rule_number (rule.Arith arith.DenseConstant) = 188
+rule_number (rule.Arith arith.NoOverflow) = 189
+rule_number (rule.Arith arith.WrittenOverflow) = 190
+rule_number (rule.Arith arith.NoMoreOverflowFlags) = 191
+rule_number (rule.Arith arith.NextOverflowFlag) = 192
+rule_number (rule.Arith arith.ScalarSelected) = 193
+rule_number (rule.Arith arith.BufferSelected) = 194
+rule_number (rule.Arith arith.VectorThenSelected) = 195
+rule_number (rule.Arith arith.OnlySelected) = 196
+rule_number (rule.Arith arith.SelectedByVector) = 197
+rule_number (rule.Affine affine.GreatestOf) = 198
+rule_number (rule.Affine affine.PlainLowerBound) = 199
+rule_number (rule.Affine affine.LeastOf) = 200
+rule_number (rule.Affine affine.PlainUpperBound) = 201
+rule_number (rule.Affine affine.NumberBound) = 202
+rule_number (rule.Affine affine.ValueBound) = 203
+rule_number (rule.Affine affine.MapBound) = 204
+rule_number (rule.Affine affine.NoStep) = 205
+rule_number (rule.Affine affine.WrittenStep) = 206
+rule_number (rule.Affine affine.NoIterArgs) = 207
+rule_number (rule.Affine affine.WrittenIterArgs) = 208
+rule_number (rule.Affine affine.NoCarried) = 209
+rule_number (rule.Affine affine.FirstCarried) = 210
+rule_number (rule.Affine affine.NoMoreCarried) = 211
+rule_number (rule.Affine affine.NextCarried) = 212
+rule_number (rule.Affine affine.MapWritten) = 213
+rule_number (rule.Affine affine.MapByAlias) = 214
+rule_number (rule.Affine affine.SetWritten) = 215
+rule_number (rule.Affine affine.SetByAlias) = 216
+rule_number (rule.Affine affine.DimensionOperands) = 217
+rule_number (rule.Affine affine.NoSymbolOperands) = 218
+rule_number (rule.Affine affine.WrittenSymbolOperands) = 219
+rule_number (rule.Affine affine.NoElse) = 220
+rule_number (rule.Affine affine.WrittenElse) = 221
+rule_number (rule.Subscript subscripts.NoSubscripts) = 222
+rule_number (rule.Subscript subscripts.FirstSubscript) = 223
+rule_number (rule.Subscript subscripts.NoMoreSubscripts) = 224
+rule_number (rule.Subscript subscripts.NextSubscript) = 225
+rule_number (rule.Subscript subscripts.WholeSubscript) = 226
+rule_number (rule.Subscript subscripts.NoMoreSubscriptTerms) = 227
+rule_number (rule.Subscript subscripts.PlusSubscriptTerm) = 228
+rule_number (rule.Subscript subscripts.MinusSubscriptTerm) = 229
+rule_number (rule.Subscript subscripts.WholeSubscriptTerm) = 230
+rule_number (rule.Subscript subscripts.NoMoreSubscriptFactors) = 231
+rule_number (rule.Subscript subscripts.TimesSubscriptFactor) = 232
+rule_number (rule.Subscript subscripts.DivisionSubscriptFactor) = 233
+rule_number (rule.Subscript subscripts.NumberSubscriptFactor) = 234
+rule_number (rule.Subscript subscripts.PlainSubscriptFactor) = 235
+rule_number (rule.Subscript subscripts.MinusSubscriptFactor) = 236
+rule_number (rule.Subscript subscripts.NegativeSubscriptNumber) = 237
+rule_number (rule.Subscript subscripts.NegatedSubscriptBase) = 238
+rule_number (rule.Subscript subscripts.DimensionValue) = 239
+rule_number (rule.Subscript subscripts.SymbolValue) = 240
+rule_number (rule.Subscript subscripts.SubscriptInBrackets) = 241
+rule_number (rule.Operation n) = 242
 
-unfoldable pub all_rules : List Rule
-all_rules =
+-- the operation whose row it is, or 0
+unfoldable pub operation_of : Rule → ℕ
+operation_of (rule.Operation n) = n
+operation_of _ = 0
+
+-- the rows in the order of their numbers, with that of this operation
+unfoldable pub all_rules : ℕ → List Rule
+all_rules n =
     rule.File file.WholeFile ∷
     rule.File file.NoMoreAliases ∷
     rule.File file.NextAlias ∷
@@ -679,12 +612,6 @@ all_rules =
     rule.Value values.NextResult ∷
     rule.Value values.OneResult ∷
     rule.Value values.CountedResults ∷
-    rule.Arith arith.ArithConstant ∷
-    rule.Arith arith.ArithOverflowing ∷
-    rule.Arith arith.ArithBinary ∷
-    rule.Arith arith.ArithCmpi ∷
-    rule.Arith arith.ArithSelect ∷
-    rule.Arith arith.ArithCast ∷
     rule.Arith arith.BoolConstant ∷
     rule.Arith arith.NumberConstant ∷
     rule.Arith arith.DenseConstant ∷
@@ -697,11 +624,6 @@ all_rules =
     rule.Arith arith.VectorThenSelected ∷
     rule.Arith arith.OnlySelected ∷
     rule.Arith arith.SelectedByVector ∷
-    rule.Affine affine.AffineFor ∷
-    rule.Affine affine.AffineIf ∷
-    rule.Affine affine.AffineMapOp ∷
-    rule.Affine affine.AffineLoad ∷
-    rule.Affine affine.AffineStore ∷
     rule.Affine affine.GreatestOf ∷
     rule.Affine affine.PlainLowerBound ∷
     rule.Affine affine.LeastOf ∷
@@ -746,183 +668,168 @@ all_rules =
     rule.Subscript subscripts.DimensionValue ∷
     rule.Subscript subscripts.SymbolValue ∷
     rule.Subscript subscripts.SubscriptInBrackets ∷
-    rule.MemRef memref.MemRefLoad ∷
-    rule.MemRef memref.MemRefStore ∷
-    rule.MemRef memref.MemRefDim ∷
-    rule.Scf scf.ScfFor ∷
-    rule.Vector vector.VectorLoad ∷
-    rule.Vector vector.VectorStore ∷
-    rule.Vector vector.VectorMaskedLoad ∷
-    rule.Vector vector.VectorMaskedStore ∷
-    rule.Vector vector.VectorBroadcast ∷
-    rule.Vector vector.VectorCreateMask ∷
-    rule.Vector vector.VectorReduction ∷
-    rule.Vector vector.VectorExtract ∷
-    rule.Vector vector.VectorInsert ∷
-    rule.Vector vector.VectorShuffle ∷
-    rule.Vector vector.VectorStep ∷
-    rule.Vector vector.VectorVscale ∷
+    rule.Operation n ∷
     []
 
 -- the classes that can come first in a name, as bits
 unfoldable pub first_of : Name → ℕ
-first_of (name.File file_name.File) = 534345212269666095221702656
-first_of (name.File file_name.Aliases) = 67699845898419233783545856
-first_of (name.File file_name.MapOrSet) = 844424930131968
-first_of (name.File file_name.Content) = 466645366371246861438156800
-first_of (name.File file_name.TopLevel) = 464227514732017603088744448
-first_of (name.File file_name.MoreFunctions) = 311902861460574327075241984
-first_of (name.File file_name.Function) = 309485009821345068725829632
+first_of (name.File file_name.File) = 3981182070597091328
+first_of (name.File file_name.Aliases) = 504403158265495552
+first_of (name.File file_name.MapOrSet) = 100663296
+first_of (name.File file_name.Content) = 3476778912331595776
+first_of (name.File file_name.TopLevel) = 3458764513822113792
+first_of (name.File file_name.MoreFunctions) = 2323857407724224512
+first_of (name.File file_name.Function) = 2305843009214742528
 first_of (name.Function functions_name.Module) = 524288
-first_of (name.Function functions_name.OptionalSymbol) = 4835703278458516698824704
+first_of (name.Function functions_name.OptionalSymbol) = 36028797018963968
 first_of (name.Function functions_name.NamedFunction) = 1048576
-first_of (name.Function functions_name.OptionalVisibility) = 1180591620717411303424
-first_of (name.Function functions_name.FunctionArguments) = 2417851639229258349412352
+first_of (name.Function functions_name.OptionalVisibility) = 8796093022208
+first_of (name.Function functions_name.FunctionArguments) = 18014398509481984
 first_of (name.Function functions_name.MoreFunctionArguments) = 512
-first_of (name.Function functions_name.FunctionArgument) = 2417851639229258349412352
-first_of (name.Function functions_name.Form) = 1083198087777047544008802304
-first_of (name.Region regions_name.Operations) = 1085615957863020876067766272
-first_of (name.Region regions_name.Operation) = 1083198106223791617718353920
-first_of (name.Region regions_name.AfterTerminator) = 1085615957863020876067766272
-first_of (name.Region regions_name.TypedValues) = 2417851639229258349412352
+first_of (name.Function functions_name.FunctionArgument) = 18014398509481984
+first_of (name.Function functions_name.Form) = 17293822569104277504
+first_of (name.Region regions_name.Operations) = 17311839166637015040
+first_of (name.Region regions_name.Operation) = 17293824768127533056
+first_of (name.Region regions_name.AfterTerminator) = 17311839166637015040
+first_of (name.Region regions_name.TypedValues) = 18014398509481984
 first_of (name.Region regions_name.Region) = 8
 first_of (name.Generic generic_name.GenericParts) = 2
 first_of (name.Generic generic_name.Properties) = 128
 first_of (name.Generic generic_name.Regions) = 2
 first_of (name.Generic generic_name.MoreRegions) = 512
 first_of (name.Generic generic_name.GenericRegion) = 8
-first_of (name.Generic generic_name.Label) = 77371252455336267181195264
-first_of (name.Generic generic_name.Arguments) = 2417851639229258349412352
+first_of (name.Generic generic_name.Label) = 576460752303423488
+first_of (name.Generic generic_name.Arguments) = 18014398509481984
 first_of (name.Generic generic_name.MoreArguments) = 512
-first_of (name.Type types_name.Type) = 37778931915733719842816
-first_of (name.Type types_name.MemRef) = 17592186044416
-first_of (name.Type types_name.Sizes) = 604462909807314587353088
-first_of (name.Type types_name.Vector) = 35184372088832
-first_of (name.Type types_name.Dims) = 1813388729421943762059264
-first_of (name.Type types_name.Types) = 37778931915733719842816
+first_of (name.Type types_name.Type) = 281474983002112
+first_of (name.Type types_name.MemRef) = 2097152
+first_of (name.Type types_name.Sizes) = 4503599627370496
+first_of (name.Type types_name.Vector) = 4194304
+first_of (name.Type types_name.Dims) = 13510798882111488
+first_of (name.Type types_name.Types) = 281474983002112
 first_of (name.Type types_name.MoreTypes) = 512
-first_of (name.Type types_name.ResultTypes) = 37778931915733719842818
+first_of (name.Type types_name.ResultTypes) = 281474983002114
 first_of (name.Type types_name.OptionalResultTypes) = 65536
 first_of (name.Type types_name.Layout) = 512
-first_of (name.Type types_name.Strides) = 453347182355485940547584
+first_of (name.Type types_name.Strides) = 3377699720560640
 first_of (name.Type types_name.MoreStrides) = 512
-first_of (name.Type types_name.Stride) = 453347182355485940547584
+first_of (name.Type types_name.Stride) = 3377699720560640
 first_of (name.Type types_name.OptionalOffset) = 512
-first_of (name.Attribute attributes_name.Attribute) = 1156224799965889194035789864
+first_of (name.Attribute attributes_name.Attribute) = 8614546060785762344
 first_of (name.Attribute attributes_name.NumberType) = 1024
 first_of (name.Attribute attributes_name.HashWords) = 128
-first_of (name.Attribute attributes_name.Attributes) = 1156224799965889194035789864
+first_of (name.Attribute attributes_name.Attributes) = 8614546060785762344
 first_of (name.Attribute attributes_name.MoreAttributes) = 512
 first_of (name.Attribute attributes_name.ArrayNumbers) = 1024
-first_of (name.Attribute attributes_name.Dense) = 2251799813685248
-first_of (name.Attribute attributes_name.Element) = 453937478165844646182944
-first_of (name.Attribute attributes_name.Elements) = 453937478165844646182944
+first_of (name.Attribute attributes_name.Dense) = 268435456
+first_of (name.Attribute attributes_name.Element) = 3382097767055392
+first_of (name.Attribute attributes_name.Elements) = 3382097767055392
 first_of (name.Attribute attributes_name.MoreElements) = 512
 first_of (name.Attribute attributes_name.Dictionary) = 8
-first_of (name.Attribute attributes_name.Entries) = 151115727451828646313984
+first_of (name.Attribute attributes_name.Entries) = 9224497936761094144
 first_of (name.Attribute attributes_name.MoreEntries) = 512
-first_of (name.Attribute attributes_name.Entry) = 151115727451828646313984
+first_of (name.Attribute attributes_name.Entry) = 9224497936761094144
 first_of (name.Attribute attributes_name.EntryValue) = 2048
 first_of (name.Attribute attributes_name.FunctionTypeValue) = 2048
-first_of (name.Attribute attributes_name.AttributeOrFunctionType) = 1156224799965889194035789866
+first_of (name.Attribute attributes_name.AttributeOrFunctionType) = 8614546060785762346
 first_of (name.Attribute attributes_name.OptionalDictionary) = 8
-first_of (name.Attribute attributes_name.OptionalAttributes) = 36028797018963968
-first_of (name.Map maps_name.AffineMap) = 281474976710656
-first_of (name.Map maps_name.AffineSet) = 562949953421312
+first_of (name.Attribute attributes_name.OptionalAttributes) = 4294967296
+first_of (name.Map maps_name.AffineMap) = 33554432
+first_of (name.Map maps_name.AffineSet) = 67108864
 first_of (name.Map maps_name.Parameters) = 2
 first_of (name.Map maps_name.SymbolNames) = 32
-first_of (name.Map maps_name.Words) = 151115727451828646313984
+first_of (name.Map maps_name.Words) = 9224497936761094144
 first_of (name.Map maps_name.MoreWords) = 512
-first_of (name.Map maps_name.Expressions) = 604462909807314586845186
+first_of (name.Map maps_name.Expressions) = 9227875636481638402
 first_of (name.Map maps_name.MoreExpressions) = 512
-first_of (name.Map maps_name.SetRows) = 604462909807314586845186
+first_of (name.Map maps_name.SetRows) = 9227875636481638402
 first_of (name.Map maps_name.MoreSetRows) = 512
-first_of (name.Map maps_name.SetRow) = 604462909807314586845186
+first_of (name.Map maps_name.SetRow) = 9227875636481638402
 first_of (name.Map maps_name.RightSide) = 393216
-first_of (name.Map maps_name.Expression) = 604462909807314586845186
+first_of (name.Map maps_name.Expression) = 9227875636481638402
 first_of (name.Map maps_name.Sum) = 20480
-first_of (name.Map maps_name.Term) = 604462909807314586845186
-first_of (name.Map maps_name.Product) = 4722366482869645221888
-first_of (name.Map maps_name.Factor) = 604462909807314586845186
-first_of (name.Map maps_name.Negated) = 604462909807314586828802
-first_of (name.Map maps_name.Base) = 151115727451828646313986
-first_of (name.Value values_name.Value) = 2417851639229258349412352
-first_of (name.Value values_name.ResultNumber) = 9671406556917033397649408
-first_of (name.Value values_name.Values) = 2417851639229258349412352
+first_of (name.Map maps_name.Term) = 9227875636481638402
+first_of (name.Map maps_name.Product) = 35184372097024
+first_of (name.Map maps_name.Factor) = 9227875636481638402
+first_of (name.Map maps_name.Negated) = 9227875636481622018
+first_of (name.Map maps_name.Base) = 9224497936761094146
+first_of (name.Value values_name.Value) = 18014398509481984
+first_of (name.Value values_name.ResultNumber) = 72057594037927936
+first_of (name.Value values_name.Values) = 18014398509481984
 first_of (name.Value values_name.MoreValues) = 512
 first_of (name.Value values_name.OptionalValue) = 512
-first_of (name.Value values_name.Integer) = 453347182355485940531200
-first_of (name.Value values_name.Integers) = 453347182355485940531200
+first_of (name.Value values_name.Integer) = 3377699720544256
+first_of (name.Value values_name.Integers) = 3377699720544256
 first_of (name.Value values_name.MoreIntegers) = 512
-first_of (name.Value values_name.Results) = 2417851639229258349412352
+first_of (name.Value values_name.Results) = 18014398509481984
 first_of (name.Value values_name.MoreResults) = 512
 first_of (name.Value values_name.ResultCount) = 1024
-first_of (name.Arith arith_name.Constant) = 453937480417644459868160
-first_of (name.Arith arith_name.OptionalOverflow) = 18014398509481984
+first_of (name.Arith arith_name.Constant) = 3382098035490816
+first_of (name.Arith arith_name.OptionalOverflow) = 2147483648
 first_of (name.Arith arith_name.MoreOverflowFlags) = 512
-first_of (name.Arith arith_name.SelectedTypes) = 37778931915733719842816
+first_of (name.Arith arith_name.SelectedTypes) = 281474983002112
 first_of (name.Arith arith_name.AfterVector) = 512
-first_of (name.Affine affine_name.LowerBound) = 70571053943657489904975872
-first_of (name.Affine affine_name.UpperBound) = 70571049331971471477587968
-first_of (name.Affine affine_name.Bound) = 70571044720285453050200064
-first_of (name.Affine affine_name.OptionalStep) = 144115188075855872
-first_of (name.Affine affine_name.OptionalIterArgs) = 288230376151711744
-first_of (name.Affine affine_name.Carried) = 2417851639229258349412356
+first_of (name.Affine affine_name.LowerBound) = 525796356040704000
+first_of (name.Affine affine_name.UpperBound) = 525795806284890112
+first_of (name.Affine affine_name.Bound) = 525795256529076224
+first_of (name.Affine affine_name.OptionalStep) = 17179869184
+first_of (name.Affine affine_name.OptionalIterArgs) = 34359738368
+first_of (name.Affine affine_name.Carried) = 18014398509481988
 first_of (name.Affine affine_name.MoreCarried) = 516
-first_of (name.Affine affine_name.MapUse) = 67699845898700708760256512
-first_of (name.Affine affine_name.SetUse) = 67699845898982183736967168
+first_of (name.Affine affine_name.MapUse) = 504403158299049984
+first_of (name.Affine affine_name.SetUse) = 504403158332604416
 first_of (name.Affine affine_name.MapOperands) = 2
 first_of (name.Affine affine_name.SymbolOperands) = 32
-first_of (name.Affine affine_name.OptionalElse) = 576460752303423488
-first_of (name.Subscript subscripts_name.Subscripts) = 2871198830591943544684546
+first_of (name.Affine affine_name.OptionalElse) = 68719476736
+first_of (name.Subscript subscripts_name.Subscripts) = 21392099303768066
 first_of (name.Subscript subscripts_name.MoreSubscripts) = 512
-first_of (name.Subscript subscripts_name.Subscript) = 2871198830591943544684546
+first_of (name.Subscript subscripts_name.Subscript) = 21392099303768066
 first_of (name.Subscript subscripts_name.SubscriptSum) = 20480
-first_of (name.Subscript subscripts_name.SubscriptTerm) = 2871198830591943544684546
-first_of (name.Subscript subscripts_name.SubscriptProduct) = 4722366482869645221888
-first_of (name.Subscript subscripts_name.SubscriptFactor) = 2871198830591943544684546
-first_of (name.Subscript subscripts_name.NegatedSubscript) = 2871198830591943544668162
-first_of (name.Subscript subscripts_name.SubscriptBase) = 2417851648236457604153346
+first_of (name.Subscript subscripts_name.SubscriptTerm) = 21392099303768066
+first_of (name.Subscript subscripts_name.SubscriptProduct) = 35184372097024
+first_of (name.Subscript subscripts_name.SubscriptFactor) = 21392099303768066
+first_of (name.Subscript subscripts_name.NegatedSubscript) = 21392099303751682
+first_of (name.Subscript subscripts_name.SubscriptBase) = 18014399583223810
 
 -- the classes that can come after a name, as bits
 unfoldable pub follow_of : Name → ℕ
 follow_of (name.File file_name.File) = 1
-follow_of (name.File file_name.Aliases) = 466645366371246861438156801
-follow_of (name.File file_name.MapOrSet) = 534345212269666095221702657
+follow_of (name.File file_name.Aliases) = 3476778912331595777
+follow_of (name.File file_name.MapOrSet) = 3981182070597091329
 follow_of (name.File file_name.Content) = 1
 follow_of (name.File file_name.TopLevel) = 1
 follow_of (name.File file_name.MoreFunctions) = 1
-follow_of (name.File file_name.Function) = 311902861460574327075241985
-follow_of (name.Function functions_name.Module) = 1085615957863020876067766289
-follow_of (name.Function functions_name.OptionalSymbol) = 36028797018963976
-follow_of (name.Function functions_name.NamedFunction) = 1085615957863020876067766289
-follow_of (name.Function functions_name.OptionalVisibility) = 4835703278458516698824704
+follow_of (name.File file_name.Function) = 2323857407724224513
+follow_of (name.Function functions_name.Module) = 17311839166637015057
+follow_of (name.Function functions_name.OptionalSymbol) = 4294967304
+follow_of (name.Function functions_name.NamedFunction) = 17311839166637015057
+follow_of (name.Function functions_name.OptionalVisibility) = 36028797018963968
 follow_of (name.Function functions_name.FunctionArguments) = 4
 follow_of (name.Function functions_name.MoreFunctionArguments) = 4
 follow_of (name.Function functions_name.FunctionArgument) = 516
-follow_of (name.Function functions_name.Form) = 1085615957863020876067766288
+follow_of (name.Function functions_name.Form) = 17311839166637015056
 follow_of (name.Region regions_name.Operations) = 16
 follow_of (name.Region regions_name.Operation) = 16
 follow_of (name.Region regions_name.AfterTerminator) = 16
-follow_of (name.Region regions_name.TypedValues) = 1085615957863020876067766288
-follow_of (name.Region regions_name.Region) = 1085615958439481628371189785
-follow_of (name.Generic generic_name.GenericParts) = 1085615957863020876067766289
+follow_of (name.Region regions_name.TypedValues) = 17311839166637015056
+follow_of (name.Region regions_name.Region) = 17311839235356491801
+follow_of (name.Generic generic_name.GenericParts) = 17311839166637015057
 follow_of (name.Generic generic_name.Properties) = 1034
 follow_of (name.Generic generic_name.Regions) = 1032
 follow_of (name.Generic generic_name.MoreRegions) = 4
 follow_of (name.Generic generic_name.GenericRegion) = 516
-follow_of (name.Generic generic_name.Label) = 1085615957863020876067766288
+follow_of (name.Generic generic_name.Label) = 17311839166637015056
 follow_of (name.Generic generic_name.Arguments) = 4
 follow_of (name.Generic generic_name.MoreArguments) = 4
-follow_of (name.Type types_name.Type) = 1085615961429871780945200989
-follow_of (name.Type types_name.MemRef) = 1085615961429871780945200989
-follow_of (name.Type types_name.Sizes) = 37778931862957161709568
-follow_of (name.Type types_name.Vector) = 1085615961429871780945200989
-follow_of (name.Type types_name.Dims) = 37778931862957161709568
+follow_of (name.Type types_name.Type) = 17311839591838779229
+follow_of (name.Type types_name.MemRef) = 17311839591838779229
+follow_of (name.Type types_name.Sizes) = 281474976710656
+follow_of (name.Type types_name.Vector) = 17311839591838779229
+follow_of (name.Type types_name.Dims) = 281474976710656
 follow_of (name.Type types_name.Types) = 4
-follow_of (name.Type types_name.MoreTypes) = 1085615957863020876067766292
-follow_of (name.Type types_name.ResultTypes) = 1085615957899049673086730777
-follow_of (name.Type types_name.OptionalResultTypes) = 36028797018963976
+follow_of (name.Type types_name.MoreTypes) = 17311839166637015060
+follow_of (name.Type types_name.ResultTypes) = 17311839170931982873
+follow_of (name.Type types_name.OptionalResultTypes) = 4294967304
 follow_of (name.Type types_name.Layout) = 256
 follow_of (name.Type types_name.Strides) = 64
 follow_of (name.Type types_name.MoreStrides) = 64
@@ -934,21 +841,21 @@ follow_of (name.Attribute attributes_name.HashWords) = 592
 follow_of (name.Attribute attributes_name.Attributes) = 64
 follow_of (name.Attribute attributes_name.MoreAttributes) = 64
 follow_of (name.Attribute attributes_name.ArrayNumbers) = 256
-follow_of (name.Attribute attributes_name.Dense) = 1085615957863020876067766864
+follow_of (name.Attribute attributes_name.Dense) = 17311839166637015632
 follow_of (name.Attribute attributes_name.Element) = 832
 follow_of (name.Attribute attributes_name.Elements) = 64
 follow_of (name.Attribute attributes_name.MoreElements) = 64
-follow_of (name.Attribute attributes_name.Dictionary) = 1085615957863020876067768156
+follow_of (name.Attribute attributes_name.Dictionary) = 17311839166637016924
 follow_of (name.Attribute attributes_name.Entries) = 16
 follow_of (name.Attribute attributes_name.MoreEntries) = 16
 follow_of (name.Attribute attributes_name.Entry) = 528
 follow_of (name.Attribute attributes_name.EntryValue) = 528
 follow_of (name.Attribute attributes_name.FunctionTypeValue) = 528
 follow_of (name.Attribute attributes_name.AttributeOrFunctionType) = 528
-follow_of (name.Attribute attributes_name.OptionalDictionary) = 1085615957863020876067767828
+follow_of (name.Attribute attributes_name.OptionalDictionary) = 17311839166637016596
 follow_of (name.Attribute attributes_name.OptionalAttributes) = 8
-follow_of (name.Map maps_name.AffineMap) = 534345212269666095221703251
-follow_of (name.Map maps_name.AffineSet) = 534345212269666095221703251
+follow_of (name.Map maps_name.AffineMap) = 3981182070597091923
+follow_of (name.Map maps_name.AffineSet) = 3981182070597091923
 follow_of (name.Map maps_name.Parameters) = 66560
 follow_of (name.Map maps_name.SymbolNames) = 66560
 follow_of (name.Map maps_name.Words) = 324
@@ -963,50 +870,50 @@ follow_of (name.Map maps_name.Expression) = 393732
 follow_of (name.Map maps_name.Sum) = 393732
 follow_of (name.Map maps_name.Term) = 414212
 follow_of (name.Map maps_name.Product) = 414212
-follow_of (name.Map maps_name.Factor) = 4722366482869645636100
-follow_of (name.Map maps_name.Negated) = 4722366482869645636100
-follow_of (name.Map maps_name.Base) = 4722366482869645636100
-follow_of (name.Value values_name.Value) = 4722888900426420221548
-follow_of (name.Value values_name.ResultNumber) = 4722888900426420221548
+follow_of (name.Map maps_name.Factor) = 35184372511236
+follow_of (name.Map maps_name.Negated) = 35184372511236
+follow_of (name.Map maps_name.Base) = 35184372511236
+follow_of (name.Value values_name.Value) = 35246649144940
+follow_of (name.Value values_name.ResultNumber) = 35246649144940
 follow_of (name.Value values_name.Values) = 68
 follow_of (name.Value values_name.MoreValues) = 1092
 follow_of (name.Value values_name.OptionalValue) = 1024
-follow_of (name.Value values_name.Integer) = 504403158265497432
+follow_of (name.Value values_name.Integer) = 60129544024
 follow_of (name.Value values_name.Integers) = 64
 follow_of (name.Value values_name.MoreIntegers) = 320
-follow_of (name.Value values_name.Results) = 1083198106223791617718353920
+follow_of (name.Value values_name.Results) = 17293824768127533056
 follow_of (name.Value values_name.MoreResults) = 2048
 follow_of (name.Value values_name.ResultCount) = 2560
-follow_of (name.Arith arith_name.Constant) = 1085615957863020876067766288
+follow_of (name.Arith arith_name.Constant) = 17311839166637015056
 follow_of (name.Arith arith_name.OptionalOverflow) = 1024
 follow_of (name.Arith arith_name.MoreOverflowFlags) = 256
-follow_of (name.Arith arith_name.SelectedTypes) = 1085615957863020876067766288
-follow_of (name.Arith arith_name.AfterVector) = 1085615957863020876067766288
-follow_of (name.Affine affine_name.LowerBound) = 72057594037927936
-follow_of (name.Affine affine_name.UpperBound) = 432345564227567624
-follow_of (name.Affine affine_name.Bound) = 504403158265495560
-follow_of (name.Affine affine_name.OptionalStep) = 288230376151711752
+follow_of (name.Arith arith_name.SelectedTypes) = 17311839166637015056
+follow_of (name.Arith arith_name.AfterVector) = 17311839166637015056
+follow_of (name.Affine affine_name.LowerBound) = 8589934592
+follow_of (name.Affine affine_name.UpperBound) = 51539607560
+follow_of (name.Affine affine_name.Bound) = 60129542152
+follow_of (name.Affine affine_name.OptionalStep) = 34359738376
 follow_of (name.Affine affine_name.OptionalIterArgs) = 8
 follow_of (name.Affine affine_name.Carried) = 4
-follow_of (name.Affine affine_name.MoreCarried) = 37778931915733719842816
-follow_of (name.Affine affine_name.MapUse) = 1085615958367424034333261848
+follow_of (name.Affine affine_name.MoreCarried) = 281474983002112
+follow_of (name.Affine affine_name.MapUse) = 17311839226766557208
 follow_of (name.Affine affine_name.SetUse) = 65544
-follow_of (name.Affine affine_name.MapOperands) = 1085615958367424034333327384
-follow_of (name.Affine affine_name.SymbolOperands) = 1085615958367424034333327384
-follow_of (name.Affine affine_name.OptionalElse) = 1085615957863020876067766288
+follow_of (name.Affine affine_name.MapOperands) = 17311839226766622744
+follow_of (name.Affine affine_name.SymbolOperands) = 17311839226766622744
+follow_of (name.Affine affine_name.OptionalElse) = 17311839166637015056
 follow_of (name.Subscript subscripts_name.Subscripts) = 64
 follow_of (name.Subscript subscripts_name.MoreSubscripts) = 64
 follow_of (name.Subscript subscripts_name.Subscript) = 576
 follow_of (name.Subscript subscripts_name.SubscriptSum) = 580
 follow_of (name.Subscript subscripts_name.SubscriptTerm) = 21060
 follow_of (name.Subscript subscripts_name.SubscriptProduct) = 21060
-follow_of (name.Subscript subscripts_name.SubscriptFactor) = 4722366482869645242948
-follow_of (name.Subscript subscripts_name.NegatedSubscript) = 4722366482869645242948
-follow_of (name.Subscript subscripts_name.SubscriptBase) = 4722366482869645242948
+follow_of (name.Subscript subscripts_name.SubscriptFactor) = 35184372118084
+follow_of (name.Subscript subscripts_name.NegatedSubscript) = 35184372118084
+follow_of (name.Subscript subscripts_name.SubscriptBase) = 35184372118084
 
 -- whether a class is among those of a number's bits
 unfoldable pub has : ℕ → Class → Bool
 has set c = nat_eq ((set / 2 ^ class_number c) % 2) 1
 
 unfoldable pub is_same_class : Class → Class → Bool
-is_same_class a b = nat_eq (class_number a) (class_number b)
+is_same_class a b = nat_eq (class_number a) (class_number b) && nat_eq (operation_in a) (operation_in b)

@@ -1,6 +1,9 @@
 -- The table as a whole, and the weights by which expanding names comes to an end.
 use Rattle.std.specs.Prelude.{ℕ, ◌+◌, Bool, true, false, ◌&&◌, ◌||◌, not, List, [], ◌∷◌, nat_lt, if◌then◌else◌}
+use Rattle.av_dialects.specs.Rows.{form_of}
 use Rattle.av_tree.specs.declared.class.Class.{Class}
+use Rattle.av_tree.specs.declared.class.Keyword.TheVariants as key
+use Rattle.av_tree.specs.Forms.{form_symbols}
 use Rattle.av_tree.specs.declared.table.Symbol.{Symbol}
 use Rattle.av_tree.specs.declared.table.Symbol.TheVariants as symbol
 use Rattle.av_tree.specs.declared.table.Name.{Name}
@@ -29,9 +32,6 @@ use Rattle.av_tree.specs.rows.ValueRows as values
 use Rattle.av_tree.specs.rows.ArithRows as arith
 use Rattle.av_tree.specs.rows.AffineRows as affine
 use Rattle.av_tree.specs.rows.SubscriptRows as subscripts
-use Rattle.av_tree.specs.rows.MemRefRows as memref
-use Rattle.av_tree.specs.rows.ScfRows as scf
-use Rattle.av_tree.specs.rows.VectorRows as vector
 
 -- the symbols of a row
 abbrev pub symbols_of : Rule → List Symbol
@@ -46,9 +46,7 @@ symbols_of (rule.Value r) = values.symbols_of r
 symbols_of (rule.Arith r) = arith.symbols_of r
 symbols_of (rule.Affine r) = affine.symbols_of r
 symbols_of (rule.Subscript r) = subscripts.symbols_of r
-symbols_of (rule.MemRef r) = memref.symbols_of r
-symbols_of (rule.Scf r) = scf.symbols_of r
-symbols_of (rule.Vector r) = vector.symbols_of r
+symbols_of (rule.Operation n) = symbol.Word (key.Operation n) ∷ form_symbols (form_of n)
 
 -- the name that a row is a row of
 abbrev pub name_of : Rule → Name
@@ -63,9 +61,7 @@ name_of (rule.Value r) = values.name_of r
 name_of (rule.Arith r) = arith.name_of r
 name_of (rule.Affine r) = affine.name_of r
 name_of (rule.Subscript r) = subscripts.name_of r
-name_of (rule.MemRef r) = memref.name_of r
-name_of (rule.Scf r) = scf.name_of r
-name_of (rule.Vector r) = vector.name_of r
+name_of (rule.Operation n) = name.Function functions_name.Form
 
 -- the row of a name that can begin with a token of this class, or any of its rows where none can
 abbrev pub choice_of : Name → Class → Rule

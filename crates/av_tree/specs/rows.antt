@@ -5,10 +5,7 @@ pub mod FileRows
 pub mod FunctionRows
 pub mod GenericRows
 pub mod MapRows
-pub mod MemRefRows
 pub mod RegionRows
-pub mod ScfRows
 pub mod SubscriptRows
 pub mod TypeRows
 pub mod ValueRows
-pub mod VectorRows

@@ -3,7 +3,7 @@
 ghost use Rattle.std.specs.Prelude.{◌≡◌};
 ghost use Rattle.av_tree.specs.Classes.{is_word};
 ghost use Rattle.av_tree.specs.Classes.{bracket_of as bracket_of_class};
-ghost use Rattle.av_tree.specs.Sets.{class_number as number_of_class};
+ghost use Rattle.av_tree.specs.Sets.{class_number as number_of_class, operation_in as the_operation_in};
 
 use av_lex::Sign;
 
@@ -12,29 +12,6 @@ use av_lex::Sign;
 pub enum Keyword {
     Module,
     FuncFunc,
-    ArithConstant,
-    ArithCmpi,
-    ArithSelect,
-    AffineFor,
-    AffineIf,
-    AffineLoad,
-    AffineStore,
-    MemRefLoad,
-    MemRefStore,
-    MemRefDim,
-    ScfFor,
-    VectorLoad,
-    VectorStore,
-    VectorMaskedLoad,
-    VectorMaskedStore,
-    VectorBroadcast,
-    VectorCreateMask,
-    VectorReduction,
-    VectorExtract,
-    VectorInsert,
-    VectorShuffle,
-    VectorStep,
-    VectorVscale,
     MemRef,
     Vector,
     Strided,
@@ -57,14 +34,6 @@ pub enum Keyword {
     Max,
     /// `return`, `func.return`, `affine.yield` and `scf.yield`.
     Terminator,
-    /// The operations after whose operands `overflow<..>` may follow.
-    Overflowing,
-    /// The other operations of two operands and one type.
-    Binary,
-    /// The operations from one type to another.
-    Cast,
-    /// `affine.apply`, `affine.min` and `affine.max`.
-    MapOp,
     /// `true` and `false`.
     Bool,
     /// `private` and `public`.
@@ -77,6 +46,8 @@ pub enum Keyword {
     Kind,
     /// What a comparison asks, as `slt`.
     Predicate,
+    /// The name of the operation of this number in the table of operations.
+    Operation(u8),
 }
 
 /// The class of a token.
@@ -133,7 +104,7 @@ pub fn bracket_of(class: Class) -> Bracket
     }
 }
 
-/// The number of a class: equal classes are those of equal numbers.
+/// The number of a class: all operations have one. Equal classes are those of equal numbers that name the same operation.
 #[tactic(auto, unfolding(crate::specs::Sets::class_number))]
 pub fn class_number(class: Class) -> u32
     ensures { result ≡ number_of_class class }
@@ -142,21 +113,21 @@ pub fn class_number(class: Class) -> u32
         Class::End => 0,
         Class::Sign(sign) => sign_number(sign),
         Class::Word(word) => word_number(word),
-        Class::Scalar => 75,
-        Class::OtherWord => 76,
-        Class::Zero => 77,
-        Class::Positive => 78,
-        Class::DimX => 79,
-        Class::ScalX => 80,
-        Class::ValId => 81,
-        Class::SymId => 82,
-        Class::HashDigits => 83,
-        Class::HashWord => 84,
-        Class::HashOther => 85,
-        Class::CaretId => 86,
-        Class::QuotedModule => 87,
-        Class::QuotedFunc => 88,
-        Class::Quoted => 89,
+        Class::Scalar => 48,
+        Class::OtherWord => 49,
+        Class::Zero => 50,
+        Class::Positive => 51,
+        Class::DimX => 52,
+        Class::ScalX => 53,
+        Class::ValId => 54,
+        Class::SymId => 55,
+        Class::HashDigits => 56,
+        Class::HashWord => 57,
+        Class::HashOther => 58,
+        Class::CaretId => 59,
+        Class::QuotedModule => 60,
+        Class::QuotedFunc => 61,
+        Class::Quoted => 62,
     }
 }
 
@@ -193,60 +164,45 @@ fn word_number(word: Keyword) -> u32
     match word {
         Keyword::Module => 19,
         Keyword::FuncFunc => 20,
-        Keyword::ArithConstant => 21,
-        Keyword::ArithCmpi => 22,
-        Keyword::ArithSelect => 23,
-        Keyword::AffineFor => 24,
-        Keyword::AffineIf => 25,
-        Keyword::AffineLoad => 26,
-        Keyword::AffineStore => 27,
-        Keyword::MemRefLoad => 28,
-        Keyword::MemRefStore => 29,
-        Keyword::MemRefDim => 30,
-        Keyword::ScfFor => 31,
-        Keyword::VectorLoad => 32,
-        Keyword::VectorStore => 33,
-        Keyword::VectorMaskedLoad => 34,
-        Keyword::VectorMaskedStore => 35,
-        Keyword::VectorBroadcast => 36,
-        Keyword::VectorCreateMask => 37,
-        Keyword::VectorReduction => 38,
-        Keyword::VectorExtract => 39,
-        Keyword::VectorInsert => 40,
-        Keyword::VectorShuffle => 41,
-        Keyword::VectorStep => 42,
-        Keyword::VectorVscale => 43,
-        Keyword::MemRef => 44,
-        Keyword::Vector => 45,
-        Keyword::Strided => 46,
-        Keyword::Offset => 47,
-        Keyword::AffineMap => 48,
-        Keyword::AffineSet => 49,
-        Keyword::Array => 50,
-        Keyword::Dense => 51,
-        Keyword::FunctionType => 52,
-        Keyword::Symbol => 53,
-        Keyword::Overflow => 54,
-        Keyword::Attributes => 55,
-        Keyword::To => 56,
-        Keyword::Step => 57,
-        Keyword::IterArgs => 58,
-        Keyword::Else => 59,
-        Keyword::Into => 60,
-        Keyword::From => 61,
-        Keyword::Min => 62,
-        Keyword::Max => 63,
-        Keyword::Terminator => 64,
-        Keyword::Overflowing => 65,
-        Keyword::Binary => 66,
-        Keyword::Cast => 67,
-        Keyword::MapOp => 68,
-        Keyword::Bool => 69,
-        Keyword::Visibility => 70,
-        Keyword::OverflowFlag => 71,
-        Keyword::Division => 72,
-        Keyword::Kind => 73,
-        Keyword::Predicate => 74,
+        Keyword::MemRef => 21,
+        Keyword::Vector => 22,
+        Keyword::Strided => 23,
+        Keyword::Offset => 24,
+        Keyword::AffineMap => 25,
+        Keyword::AffineSet => 26,
+        Keyword::Array => 27,
+        Keyword::Dense => 28,
+        Keyword::FunctionType => 29,
+        Keyword::Symbol => 30,
+        Keyword::Overflow => 31,
+        Keyword::Attributes => 32,
+        Keyword::To => 33,
+        Keyword::Step => 34,
+        Keyword::IterArgs => 35,
+        Keyword::Else => 36,
+        Keyword::Into => 37,
+        Keyword::From => 38,
+        Keyword::Min => 39,
+        Keyword::Max => 40,
+        Keyword::Terminator => 41,
+        Keyword::Bool => 42,
+        Keyword::Visibility => 43,
+        Keyword::OverflowFlag => 44,
+        Keyword::Division => 45,
+        Keyword::Kind => 46,
+        Keyword::Predicate => 47,
+        Keyword::Operation(_) => 63,
+    }
+}
+
+/// The number of the operation that a class names, or 0.
+#[tactic(auto, unfolding(crate::specs::Sets::operation_in))]
+pub fn operation_in(class: Class) -> u8
+    ensures { result ≡ the_operation_in class }
+{
+    match class {
+        Class::Word(Keyword::Operation(number)) => number,
+        _ => 0,
     }
 }
 

@@ -11,7 +11,7 @@ pub mod types;
 mod written;
 
 pub use attribute::{Alias, Attr, Element, Named};
-pub use class::{Bracket, Class, Keyword, bracket_of, class_number};
+pub use class::{Bracket, Class, Keyword, bracket_of, class_number, operation_in};
 pub use named_forms::template;
 pub use node::{Body, BodyArg, Node, Tree};
 pub use written::{DimText, ExprText, LayoutText, MapText, RowText, SetText, SizeText, TypeText};

@@ -4,7 +4,7 @@
 //! module is what the rows of `File` derive. `choose` gives the one row of a name that can begin with
 //! a token; where none can, any row is given, and its first token refuses that token.
 
-ghost use Rattle.std.specs.Prelude.{◌≡◌, IsTrue};
+ghost use Rattle.std.specs.Prelude.{◌≡◌, ◌++◌, reverse, IsTrue, OnOk};
 ghost use Rattle.av_tree.specs.Classes.{fits_of};
 ghost use Rattle.av_tree.specs.Needs.{need_of};
 ghost use Rattle.av_tree.specs.Signs.{begins_expression as begins_expression_of, counts_sign as counts_sign_of};
@@ -14,16 +14,14 @@ mod affine;
 mod arith;
 mod attributes;
 mod file;
+mod forms;
 mod functions;
 mod generic;
 mod maps;
-mod memref;
 mod regions;
-mod scf;
 mod subscripts;
 mod types;
 mod values;
-mod vector;
 
 use super::class::{Class, Keyword, is_word_class};
 pub use affine::{AffineName, AffineRule};
@@ -34,13 +32,11 @@ pub use file::{FileName, FileRule};
 pub use functions::{FunctionName, FunctionRule};
 pub use generic::{GenericName, GenericRule};
 pub use maps::{MapName, MapRule};
-pub use memref::MemRefRule;
 pub use regions::{RegionName, RegionRule};
-pub use scf::ScfRule;
+use std::alloc::AllocError;
 pub use subscripts::{SubscriptName, SubscriptRule};
 pub use types::{TypeName, TypeRule};
 pub use values::{ValueName, ValueRule};
-pub use vector::VectorRule;
 
 /// A token of one of several classes, whose spelling matters to what its row makes.
 #[derive(Clone, Copy)]
@@ -72,11 +68,7 @@ pub enum Test {
     /// Any word but `function_type`: the name of an entry in a dictionary.
     EntryName,
     Terminator,
-    Overflowing,
-    Binary,
-    Cast,
     Predicate,
-    MapOp,
     Kind,
     Bool,
     Visibility,
@@ -123,39 +115,51 @@ pub enum Rule {
     Arith(ArithRule),
     Affine(AffineRule),
     Subscript(SubscriptRule),
-    MemRef(MemRefRule),
-    Scf(ScfRule),
-    Vector(VectorRule),
+    /// The row of the operation of this number in the table of operations.
+    Operation(u8),
 }
 
-/// The symbols of a row, in order.
-pub fn symbols(rule: Rule) -> &'static [Symbol]
-    ensures value { result.now ≡ symbols_of rule }
+/// Puts the symbols of a row on a stack, the first one last.
+///
+/// # Errors
+///
+/// Memory lacks.
+pub fn push_symbols(stack: &mut Vec<Symbol>, rule: Rule) -> Result<(), AllocError>
+    ensures value { OnOk result (stack.new.items ≡ stack.old.items ++ reverse (symbols_of rule)) }
     // Expanding names ends, since each row weighs less than its name.
     ensures lighter { IsTrue (is_lighter rule) }
 {
-    symbols_in_group(rule)
+    push_in_group(stack, rule)
 }
 
-fn symbols_in_group(rule: Rule) -> &'static [Symbol]
-    ensures { result.now ≡ symbols_of rule }
+fn push_in_group(stack: &mut Vec<Symbol>, rule: Rule) -> Result<(), AllocError>
+    ensures { OnOk result (stack.new.items ≡ stack.old.items ++ reverse (symbols_of rule)) }
 {
     match rule {
-        Rule::File(rule) => file::symbols(rule),
-        Rule::Function(rule) => functions::symbols(rule),
-        Rule::Region(rule) => regions::symbols(rule),
-        Rule::Generic(rule) => generic::symbols(rule),
-        Rule::Type(rule) => types::symbols(rule),
-        Rule::Attribute(rule) => attributes::symbols(rule),
-        Rule::Map(rule) => maps::symbols(rule),
-        Rule::Value(rule) => values::symbols(rule),
-        Rule::Arith(rule) => arith::symbols(rule),
-        Rule::Affine(rule) => affine::symbols(rule),
-        Rule::Subscript(rule) => subscripts::symbols(rule),
-        Rule::MemRef(rule) => memref::symbols(rule),
-        Rule::Scf(rule) => scf::symbols(rule),
-        Rule::Vector(rule) => vector::symbols(rule),
+        Rule::File(rule) => push_row(stack, file::symbols(rule)),
+        Rule::Function(rule) => push_row(stack, functions::symbols(rule)),
+        Rule::Region(rule) => push_row(stack, regions::symbols(rule)),
+        Rule::Generic(rule) => push_row(stack, generic::symbols(rule)),
+        Rule::Type(rule) => push_row(stack, types::symbols(rule)),
+        Rule::Attribute(rule) => push_row(stack, attributes::symbols(rule)),
+        Rule::Map(rule) => push_row(stack, maps::symbols(rule)),
+        Rule::Value(rule) => push_row(stack, values::symbols(rule)),
+        Rule::Arith(rule) => push_row(stack, arith::symbols(rule)),
+        Rule::Affine(rule) => push_row(stack, affine::symbols(rule)),
+        Rule::Subscript(rule) => push_row(stack, subscripts::symbols(rule)),
+        Rule::Operation(number) => forms::push_operation(stack, number),
     }
+}
+
+// Puts the symbols of a row on a stack, the first one last.
+fn push_row(stack: &mut Vec<Symbol>, row: &[Symbol]) -> Result<(), AllocError>
+    ensures { OnOk result (stack.new.items ≡ stack.old.items ++ reverse row.now) }
+{
+    if let [first, rest @ ..] = row {
+        push_row(stack, rest)?;
+        stack.push(*first)?;
+    }
+    Ok(())
 }
 
 /// The row of a name that can begin with a token of this class, or any of its rows where none can.
@@ -209,11 +213,7 @@ pub fn fits(test: Test, class: Class) -> bool
         Test::EntryName => !matches!(class, Class::Word(Keyword::FunctionType))
             && is_word_class(class),
         Test::Terminator => matches!(class, Class::Word(Keyword::Terminator)),
-        Test::Overflowing => matches!(class, Class::Word(Keyword::Overflowing)),
-        Test::Binary => matches!(class, Class::Word(Keyword::Binary)),
-        Test::Cast => matches!(class, Class::Word(Keyword::Cast)),
         Test::Predicate => matches!(class, Class::Word(Keyword::Predicate)),
-        Test::MapOp => matches!(class, Class::Word(Keyword::MapOp)),
         Test::Kind => matches!(class, Class::Word(Keyword::Kind)),
         Test::Bool => matches!(class, Class::Word(Keyword::Bool)),
         Test::Visibility => matches!(class, Class::Word(Keyword::Visibility)),
@@ -237,21 +237,7 @@ pub fn need(rule: Rule) -> u32
         Rule::Arith(rule) => arith::need(rule),
         Rule::Affine(rule) => affine::need(rule),
         Rule::Subscript(rule) => subscripts::need(rule),
-        Rule::MemRef(MemRefRule::MemRefLoad | MemRefRule::MemRefStore | MemRefRule::MemRefDim) => 1,
-        Rule::Scf(ScfRule::ScfFor) => 1,
-        Rule::Vector(
-            VectorRule::VectorLoad
-            | VectorRule::VectorStore
-            | VectorRule::VectorMaskedLoad
-            | VectorRule::VectorMaskedStore
-            | VectorRule::VectorBroadcast
-            | VectorRule::VectorCreateMask
-            | VectorRule::VectorReduction
-            | VectorRule::VectorExtract
-            | VectorRule::VectorInsert
-            | VectorRule::VectorShuffle
-            | VectorRule::VectorStep,
-        ) => 1,
+        Rule::Operation(number) => forms::need(number),
         _ => 0,
     }
 }

@@ -5,3 +5,5 @@ pub mod Replacing
 pub mod Numbered
 pub mod Faithful
 pub mod OneTree
+pub mod Taking
+pub mod Entries

@@ -1,5 +1,5 @@
 -- A stack of values that is one tree.
-use Rattle.std.proofs.Common.{◌≡◌, List, [], ◌∷◌, Option, Some, None, refl, ap, ◌∙◌}
+use Rattle.std.proofs.Common.{◌≡◌, List, [], ◌∷◌, Some, None, refl, ap, ◌∙◌}
 use Rattle.std.specs.Prelude.{Result, Ok, Err, OnErr}
 use Rattle.av_tree.specs.declared.node.Tree.{Tree}
 use Rattle.av_values.specs.declared.stack.Fault.{Fault}

@@ -1,5 +1,5 @@
 -- How values are taken off a stack one by one, and what is made of them put in their place.
-use Rattle.std.proofs.Common.{◌≡◌, List, [], ◌∷◌, Option, Some, None, refl, sym, ap, ◌∙◌}
+use Rattle.std.proofs.Common.{◌≡◌, List, [], ◌∷◌, Option, Some, None, sym, ap, ◌∙◌}
 use Rattle.std.specs.Option.{option_map, option_and_then}
 use Rattle.std.specs.Prelude.{Result, Ok, Err, IfErr}
 use Rattle.av_values.specs.declared.stack.Fault.{Fault}

@@ -5,7 +5,9 @@ pub mod Expressions
 pub mod Nodes
 pub mod Loops
 pub mod Accesses
+pub mod Made
 pub mod Meanings
 pub mod Operations
 pub mod Spellings
 pub mod Forms
+pub mod Gifts

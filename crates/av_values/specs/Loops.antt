@@ -1,8 +1,8 @@
 -- The parts of a loop.
-use Rattle.std.specs.Prelude.{ℕ, ℤ, pos, Bool, false, ◌||◌, ◌-◌, if◌then◌else◌, List, [], ◌∷◌, ◌++◌, length, map, slice_get, codes, Some}
+use Rattle.std.specs.Prelude.{ℕ, ℤ, Bool, false, ◌||◌, ◌-◌, if◌then◌else◌, List, [], ◌∷◌, ◌++◌, length, map, slice_get, codes}
 use Rattle.std.specs.Option.{option_map_or}
 use Rattle.std.specs.Str.{bytes_eq}
-use Rattle.av_tree.specs.declared.node.Node.{Node, out-Node, roll-Node}
+use Rattle.av_tree.specs.declared.node.Node.{Node, out-Node}
 use Rattle.av_tree.specs.declared.node.BodyArg.{BodyArg}
 use Rattle.av_tree.specs.declared.attribute.Attr.{Attr}
 use Rattle.av_tree.specs.declared.attribute.Attr.TheVariants as attr
@@ -12,7 +12,7 @@ use Rattle.av_tree.specs.declared.written.TypeText.TheVariants as ty
 use Rattle.av_values.specs.declared.value.MapUse.{MapUse}
 use Rattle.av_values.specs.declared.value.CarriedPair.{CarriedPair}
 use Rattle.av_values.specs.declared.loops.CarriedLists.{CarriedLists}
-use Rattle.av_values.specs.Nodes.{plain, with_property, with_operands}
+use Rattle.av_values.specs.Nodes.{plain}
 
 abbrev pub index_type : TypeText
 index_type = ty.Scalar (codes "index")
@@ -23,10 +23,6 @@ counter name = record { name = name; ty = index_type }
 
 abbrev pub step : ℤ → Attr
 step value = attr.Number value index_type
-
--- how many operands the bounds have, and how many values are carried
-abbrev pub segments : ℕ → ℕ → ℕ → Attr
-segments lower upper carried = attr.Array (ty.Scalar (codes "i32")) (pos lower ∷ pos upper ∷ pos carried ∷ [])
 
 -- the bound of a number, which is the map `() -> (number)`
 abbrev pub bound_of_number : ℤ → MapUse
@@ -39,10 +35,6 @@ bound_of_value value = record {
   map = attr.Map (record { dims = []; syms = codes "s0" ∷ []; results = expr.Name (codes "s0") ∷ [] });
   operands = value ∷ [];
 }
-
--- with the map and the operands of a bound
-abbrev pub with_bound : Node → List ℕ → MapUse → Node
-with_bound node name bound = with_property (with_operands node bound.operands) name bound.map
 
 -- the names of operations that end a region
 abbrev pub ends_region : List ℕ → Bool
@@ -57,10 +49,6 @@ has_end nodes = option_map_or (λ (node : Node). ends_region (out-Node node).nam
 -- the operations of a region, with a terminator of this name where it is left out
 unfoldable pub ended : List ℕ → List Node → List Node
 ended name nodes = if has_end nodes then nodes else nodes ++ plain name 0 ∷ []
-
--- the same of a loop in the Affine dialect
-abbrev pub terminated : List Node → List Node
-terminated nodes = ended (codes "affine.yield") nodes
 
 -- with one carried argument more, its first value and itself
 abbrev pub with_pair : CarriedLists → CarriedPair → TypeText → CarriedLists
@@ -78,11 +66,3 @@ with_pairs lists (pair ∷ pairs) (type ∷ types) = with_pairs (with_pair lists
 -- the first values of carried arguments of these types, and the arguments
 abbrev pub carried_lists : List CarriedPair → List TypeText → CarriedLists
 carried_lists pairs types = with_pairs (record { inits = []; args = [] }) pairs types
-
--- with carried values of these types as operands, and a result of each of the types
-unfoldable pub with_carried : Node → List (List ℕ) → List TypeText → Node
-with_carried node inits types = roll-Node (record (out-Node node) {
-  operands = (out-Node node).operands ++ inits;
-  in_types = (out-Node node).in_types ++ map (λ (type : TypeText). Some type) types;
-  out_types = (out-Node node).out_types ++ map (λ (type : TypeText). Some type) types;
-})

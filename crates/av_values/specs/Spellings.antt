@@ -7,7 +7,6 @@ use Rattle.av_tree.specs.declared.written.DimText.{DimText}
 use Rattle.av_tree.specs.declared.written.DimText.TheVariants as dim
 use Rattle.av_tree.specs.declared.written.SizeText.{SizeText}
 use Rattle.av_tree.specs.declared.written.SizeText.TheVariants as size
-use Rattle.av_tree.specs.declared.written.TypeText.{TypeText}
 use Rattle.av_tree.specs.declared.written.TypeText.TheVariants as ty
 use Rattle.av_values.specs.Numbers.{spelled_number}
 

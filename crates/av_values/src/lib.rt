@@ -2,6 +2,7 @@
 //! rows make in the same way.
 #![tactic(auto)]
 
+pub mod gifts;
 pub mod joining;
 mod lists;
 pub mod loops;

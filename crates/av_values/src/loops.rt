@@ -1,13 +1,13 @@
 //! The parts of loops.
 
-ghost use Rattle.std.specs.Prelude.{◌≡◌, ◌++◌, length, map, reverse, Some, None, IfErr, IfOk, OnOk};
-ghost use Rattle.av_values.specs.Loops.{carried_lists, counter, ended, ends_region, has_end, segments, step, with_bound, with_carried, with_pair};
+ghost use Rattle.std.specs.Prelude.{◌≡◌, reverse, Some, None, IfErr, IfOk, OnOk};
+ghost use Rattle.av_values.specs.Loops.{carried_lists, counter, ended, ends_region, has_end, step, with_pair};
 
-use crate::nodes::{plain_node, push_operands, push_property, written_types};
+use crate::nodes::plain_node;
 use crate::stack::{Fault, in_order, text_of};
-use crate::value::{Carried, CarriedPair, MapUse};
+use crate::value::CarriedPair;
 use av_affine::{Duplicate, Seq, Text};
-use av_tree::{Attr, BodyArg, Named, Node, TypeText};
+use av_tree::{Attr, BodyArg, Node, TypeText};
 use std::alloc::Global;
 
 /// The argument of a loop's region that counts.
@@ -28,37 +28,6 @@ pub fn step_of(alloc: Global, value: i128) -> Result<Attr, Fault>
     Ok(Attr::Number { value, ty })
 }
 
-/// How many operands the bounds have, and how many values are carried.
-pub fn segment_sizes(
-    alloc: Global,
-    lower: usize,
-    upper: usize,
-    carried: usize,
-) -> Result<Attr, Fault>
-    ensures ok { IfOk result (λ attr. attr ≡ segments lower upper carried) }
-    ensures err { IfErr result (λ fault. fault ≡ Fault.NoMemory) }
-{
-    let mut numbers = Seq::new(alloc);
-    numbers.push(lower as i128)?;
-    numbers.push(upper as i128)?;
-    numbers.push(carried as i128)?;
-    let elem = TypeText::Scalar(text_of(alloc, b"i32")?);
-    Ok(Attr::Array { elem, numbers })
-}
-
-/// Gives a node the map and the operands of a bound, whose number it returns.
-pub fn bound(alloc: Global, node: &mut Node, name: &[u8], map_use: MapUse) -> Result<usize, Fault>
-    ensures ok { OnOk result (node.new ≡ with_bound node.old name.now map_use) }
-    ensures number { IfOk result (λ number. number ≡ length map_use.operands) }
-    ensures err { IfErr result (λ fault. fault ≡ Fault.NoMemory) }
-{
-    let MapUse { map, operands } = map_use;
-    let number = operands.len();
-    push_operands(node, operands)?;
-    push_property(alloc, node, name, map)?;
-    Ok(number)
-}
-
 /// The first values of carried arguments, and the arguments.
 #[derive(Drop)]
 pub struct CarriedLists {
@@ -66,28 +35,30 @@ pub struct CarriedLists {
     pub args: Seq<BodyArg>,
 }
 
-/// Gives a node carried values, and their arguments to a region; it returns the number of them.
-pub fn carry(
+/// The first values of carried arguments and the arguments, from the last to the first, with their types.
+pub fn carried_of(
     alloc: Global,
-    node: &mut Node,
-    args: &mut Seq<BodyArg>,
-    carried: Carried,
-) -> Result<usize, Fault>
-    ensures node { OnOk result (node.new ≡ with_carried node.old (carried_lists (reverse carried.pairs) carried.types).inits carried.types) }
-    ensures args { OnOk result (args.new ≡ args.old ++ (carried_lists (reverse carried.pairs) carried.types).args) }
-    ensures number { IfOk result (λ number. number ≡ length carried.types) }
+    pairs: Seq<CarriedPair>,
+    types: Seq<TypeText>,
+) -> Result<(CarriedLists, Seq<TypeText>), Fault>
+    ensures lists { IfOk result (λ made. made.0 ≡ carried_lists (reverse pairs) types) }
+    ensures types { IfOk result (λ made. made.1 ≡ types) }
     ensures err { IfErr result (λ fault. fault ≡ Fault.NoMemory) }
 {
-    let Carried { pairs, types } = carried;
-    let number = types.len();
-    let in_types = written_types(alloc, types.as_slice())?;
-    let out_types = written_types(alloc, types.as_slice())?;
+    let own = copied(alloc, types.as_slice())?;
     let lists = paired(alloc, pairs, types)?;
-    node.operands.append(lists.inits)?;
-    node.in_types.append(in_types)?;
-    node.out_types.append(out_types)?;
-    args.append(lists.args)?;
-    Ok(number)
+    Ok((lists, own))
+}
+
+fn copied(alloc: Global, types: &[TypeText]) -> Result<Seq<TypeText>, Fault>
+    ensures ok { IfOk result (λ list. list ≡ types.now) }
+    ensures err { IfErr result (λ fault. fault ≡ Fault.NoMemory) }
+{
+    let mut list = Seq::new(alloc);
+    for ty in types {
+        list.push(ty.duplicate(alloc)?)?;
+    }
+    Ok(list)
 }
 
 // An argument of each of the types, as far as there are pairs, which stand from the last to the first.

@@ -1,4 +1,4 @@
--- What the rows of operations of the Affine dialect make of the values of their symbols. A list holds its last item first.
+-- What the rows of maps with their operands and of the parts of loops make of the values of their symbols. A list holds its last item first.
 use Rattle.std.specs.Prelude.{ℕ, List, [], ◌∷◌, ◌++◌, false, pos, reverse, Option, Some}
 use Rattle.av_tree.specs.declared.table.affine.AffineRule.{AffineRule}
 use Rattle.av_tree.specs.declared.table.affine.AffineRule.TheVariants as affine_rule
@@ -6,17 +6,10 @@ use Rattle.av_tree.specs.rows.AffineRows.{symbols_of, name_of}
 use Rattle.av_values.specs.Numbers.{spelled_integer}
 use Rattle.av_values.specs.Loops.{bound_of_number, bound_of_value}
 use Rattle.av_tree.specs.declared.attribute.Attr.TheVariants as attr
-use Rattle.av_values.specs.Forms.{branch_of, map_operation_of}
-use Rattle.av_values.specs.Operations.{load_of, loop_of, store_of}
 use Rattle.av_values.specs.declared.value.Value.{Value}
 use Rattle.av_values.specs.Sorts.{All, Of, replaced, sort_of, sorts_of}
 
 abbrev pub made : (r : AffineRule) → ℕ → All (sorts_of (symbols_of r)) → Of (sort_of (name_of r))
-made affine_rule.AffineFor place (name, (lower, (upper, (by, (carried, (nodes, (attrs, _))))))) = loop_of name lower upper by carried nodes attrs place
-made affine_rule.AffineIf place (set, (types, (nodes, (others, _)))) = branch_of set types nodes others place
-made affine_rule.AffineMapOp place (word, (map_use, _)) = map_operation_of word map_use place
-made affine_rule.AffineLoad place (buffer, (subscripts, (attrs, (type, _)))) = load_of buffer subscripts attrs type place
-made affine_rule.AffineStore place (value, (buffer, (subscripts, (attrs, (type, _))))) = store_of value buffer subscripts attrs type place
 made affine_rule.GreatestOf place (bound, _) = bound
 made affine_rule.PlainLowerBound place (bound, _) = bound
 made affine_rule.LeastOf place (bound, _) = bound

@@ -1,4 +1,4 @@
--- What the rows of operations of the Arith dialect make of the values of their symbols. A list holds its last item first.
+-- What the rows of constants, of the types of a choice and of flags of overflow make of the values of their symbols. A list holds its last item first.
 use Rattle.std.specs.Prelude.{ℕ, List, [], ◌∷◌, ◌++◌, codes, reverse, Option, None, Some}
 use Rattle.av_tree.specs.declared.table.arith.ArithRule.{ArithRule}
 use Rattle.av_tree.specs.declared.table.arith.ArithRule.TheVariants as arith_rule
@@ -6,27 +6,20 @@ use Rattle.av_tree.specs.rows.ArithRows.{symbols_of, name_of}
 use Rattle.av_tree.specs.declared.attribute.Attr.TheVariants as attr
 use Rattle.av_tree.specs.declared.written.TypeText.TheVariants as ty
 use Rattle.av_values.specs.Nodes.{entry}
-use Rattle.av_values.specs.Forms.{comparison_of, conversion_of, selected_of, selection_of}
-use Rattle.av_values.specs.Operations.{binary_of, constant_of}
+use Rattle.av_values.specs.Forms.{selected_of}
 use Rattle.av_values.specs.Spellings.{is_true}
 use Rattle.av_values.specs.declared.value.Value.{Value}
 use Rattle.av_values.specs.Sorts.{All, Of, replaced, sort_of, sorts_of}
 
 abbrev pub made : (r : ArithRule) → ℕ → All (sorts_of (symbols_of r)) → Of (sort_of (name_of r))
-made arith_rule.ArithConstant place (constant, _) = constant_of constant place
 made arith_rule.BoolConstant place (word, _) = record { value = attr.Bool (is_true word); ty = None }
 made arith_rule.NumberConstant place (value, (type, _)) = record { value = attr.Number value type; ty = Some type }
 made arith_rule.DenseConstant place (dense, _) = record { value = attr.Dense dense.elements dense.ty; ty = Some dense.ty }
-made arith_rule.ArithOverflowing place (word, (left, (right, (properties, (type, _))))) = binary_of word left right properties type place
 made arith_rule.NoOverflow place _ = []
 made arith_rule.WrittenOverflow place (flag, (others, _)) =
     entry (codes "overflowFlags") (attr.Hash (codes "#arith.overflow") (reverse (others ++ flag ∷ []))) ∷ []
 made arith_rule.NoMoreOverflowFlags place _ = []
 made arith_rule.NextOverflowFlag place (flag, (others, _)) = others ++ flag ∷ []
-made arith_rule.ArithBinary place (word, (left, (right, (type, _)))) = binary_of word left right [] type place
-made arith_rule.ArithCmpi place (word, (left, (right, (type, _)))) = comparison_of word left right type place
-made arith_rule.ArithSelect place (condition, (left, (right, (types, _)))) = selection_of condition left right types place
-made arith_rule.ArithCast place (word, (value, (from, (to, _)))) = conversion_of word value from to place
 made arith_rule.ScalarSelected place (name, _) = record { condition = None; operands = ty.Scalar name }
 made arith_rule.BufferSelected place (type, _) = record { condition = None; operands = type }
 made arith_rule.VectorThenSelected place (first, (next, _)) = selected_of first next

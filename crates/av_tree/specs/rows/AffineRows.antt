@@ -6,14 +6,11 @@ use Rattle.av_tree.specs.declared.table.Name.{Name}
 use Rattle.av_tree.specs.declared.table.Name.TheVariants as name
 use Rattle.av_tree.specs.declared.table.affine.AffineRule.{AffineRule}
 use Rattle.av_tree.specs.declared.table.affine.AffineRule.TheVariants as affine_rule
-use Rattle.av_tree.specs.declared.table.functions.FunctionName.TheVariants as functions_name
 use Rattle.av_tree.specs.declared.table.regions.RegionName.TheVariants as regions_name
 use Rattle.av_tree.specs.declared.table.types.TypeName.TheVariants as types_name
-use Rattle.av_tree.specs.declared.table.attributes.AttributeName.TheVariants as attributes_name
 use Rattle.av_tree.specs.declared.table.maps.MapName.TheVariants as maps_name
 use Rattle.av_tree.specs.declared.table.values.ValueName.TheVariants as values_name
 use Rattle.av_tree.specs.declared.table.affine.AffineName.TheVariants as affine_name
-use Rattle.av_tree.specs.declared.table.subscripts.SubscriptName.TheVariants as subscripts_name
 use Rattle.av_lex.specs.declared.token.Sign.TheVariants as sign
 use Rattle.av_tree.specs.declared.class.Keyword.TheVariants as key
 use Rattle.av_tree.specs.declared.table.Test.TheVariants as test
@@ -24,11 +21,6 @@ use Rattle.av_tree.specs.declared.table.Rule.TheVariants as rule
 use Rattle.av_tree.specs.declared.table.affine.AffineName.{AffineName}
 
 abbrev pub symbols_of : AffineRule → List Symbol
-symbols_of affine_rule.AffineFor = (symbol.Word key.AffineFor) ∷ (symbol.Token test.ValId) ∷ (symbol.Sign sign.Equal) ∷ (symbol.Rows (name.Affine affine_name.LowerBound)) ∷ (symbol.Word key.To) ∷ (symbol.Rows (name.Affine affine_name.UpperBound)) ∷ (symbol.Rows (name.Affine affine_name.OptionalStep)) ∷ (symbol.Rows (name.Affine affine_name.OptionalIterArgs)) ∷ (symbol.Rows (name.Region regions_name.Region)) ∷ (symbol.Rows (name.Attribute attributes_name.OptionalDictionary)) ∷ []
-symbols_of affine_rule.AffineIf = (symbol.Word key.AffineIf) ∷ (symbol.Rows (name.Affine affine_name.SetUse)) ∷ (symbol.Rows (name.Type types_name.OptionalResultTypes)) ∷ (symbol.Rows (name.Region regions_name.Region)) ∷ (symbol.Rows (name.Affine affine_name.OptionalElse)) ∷ []
-symbols_of affine_rule.AffineMapOp = (symbol.Token test.MapOp) ∷ (symbol.Rows (name.Affine affine_name.MapUse)) ∷ []
-symbols_of affine_rule.AffineLoad = (symbol.Word key.AffineLoad) ∷ (symbol.Rows (name.Value values_name.Value)) ∷ (symbol.Sign sign.OpenSquare) ∷ (symbol.Rows (name.Subscript subscripts_name.Subscripts)) ∷ (symbol.Sign sign.CloseSquare) ∷ (symbol.Rows (name.Attribute attributes_name.OptionalDictionary)) ∷ (symbol.Sign sign.Colon) ∷ (symbol.Rows (name.Type types_name.MemRef)) ∷ []
-symbols_of affine_rule.AffineStore = (symbol.Word key.AffineStore) ∷ (symbol.Rows (name.Value values_name.Value)) ∷ (symbol.Sign sign.Comma) ∷ (symbol.Rows (name.Value values_name.Value)) ∷ (symbol.Sign sign.OpenSquare) ∷ (symbol.Rows (name.Subscript subscripts_name.Subscripts)) ∷ (symbol.Sign sign.CloseSquare) ∷ (symbol.Rows (name.Attribute attributes_name.OptionalDictionary)) ∷ (symbol.Sign sign.Colon) ∷ (symbol.Rows (name.Type types_name.MemRef)) ∷ []
 symbols_of affine_rule.GreatestOf = (symbol.Word key.Max) ∷ (symbol.Rows (name.Affine affine_name.MapUse)) ∷ []
 symbols_of affine_rule.PlainLowerBound = (symbol.Rows (name.Affine affine_name.Bound)) ∷ []
 symbols_of affine_rule.LeastOf = (symbol.Word key.Min) ∷ (symbol.Rows (name.Affine affine_name.MapUse)) ∷ []
@@ -55,11 +47,6 @@ symbols_of affine_rule.NoElse = []
 symbols_of affine_rule.WrittenElse = (symbol.Word key.Else) ∷ (symbol.Rows (name.Region regions_name.Region)) ∷ []
 
 abbrev pub name_of : AffineRule → Name
-name_of affine_rule.AffineFor = name.Function functions_name.Form
-name_of affine_rule.AffineIf = name.Function functions_name.Form
-name_of affine_rule.AffineMapOp = name.Function functions_name.Form
-name_of affine_rule.AffineLoad = name.Function functions_name.Form
-name_of affine_rule.AffineStore = name.Function functions_name.Form
 name_of affine_rule.GreatestOf = name.Affine affine_name.LowerBound
 name_of affine_rule.PlainLowerBound = name.Affine affine_name.LowerBound
 name_of affine_rule.LeastOf = name.Affine affine_name.UpperBound

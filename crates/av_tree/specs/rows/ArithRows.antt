@@ -6,7 +6,6 @@ use Rattle.av_tree.specs.declared.table.Name.{Name}
 use Rattle.av_tree.specs.declared.table.Name.TheVariants as name
 use Rattle.av_tree.specs.declared.table.arith.ArithRule.{ArithRule}
 use Rattle.av_tree.specs.declared.table.arith.ArithRule.TheVariants as arith_rule
-use Rattle.av_tree.specs.declared.table.functions.FunctionName.TheVariants as functions_name
 use Rattle.av_tree.specs.declared.table.types.TypeName.TheVariants as types_name
 use Rattle.av_tree.specs.declared.table.attributes.AttributeName.TheVariants as attributes_name
 use Rattle.av_tree.specs.declared.table.values.ValueName.TheVariants as values_name
@@ -21,12 +20,6 @@ use Rattle.av_tree.specs.declared.table.Rule.TheVariants as rule
 use Rattle.av_tree.specs.declared.table.arith.ArithName.{ArithName}
 
 abbrev pub symbols_of : ArithRule → List Symbol
-symbols_of arith_rule.ArithConstant = (symbol.Word key.ArithConstant) ∷ (symbol.Rows (name.Arith arith_name.Constant)) ∷ []
-symbols_of arith_rule.ArithOverflowing = (symbol.Token test.Overflowing) ∷ (symbol.Rows (name.Value values_name.Value)) ∷ (symbol.Sign sign.Comma) ∷ (symbol.Rows (name.Value values_name.Value)) ∷ (symbol.Rows (name.Arith arith_name.OptionalOverflow)) ∷ (symbol.Sign sign.Colon) ∷ (symbol.Rows (name.Type types_name.Type)) ∷ []
-symbols_of arith_rule.ArithBinary = (symbol.Token test.Binary) ∷ (symbol.Rows (name.Value values_name.Value)) ∷ (symbol.Sign sign.Comma) ∷ (symbol.Rows (name.Value values_name.Value)) ∷ (symbol.Sign sign.Colon) ∷ (symbol.Rows (name.Type types_name.Type)) ∷ []
-symbols_of arith_rule.ArithCmpi = (symbol.Word key.ArithCmpi) ∷ (symbol.Token test.Predicate) ∷ (symbol.Sign sign.Comma) ∷ (symbol.Rows (name.Value values_name.Value)) ∷ (symbol.Sign sign.Comma) ∷ (symbol.Rows (name.Value values_name.Value)) ∷ (symbol.Sign sign.Colon) ∷ (symbol.Rows (name.Type types_name.Type)) ∷ []
-symbols_of arith_rule.ArithSelect = (symbol.Word key.ArithSelect) ∷ (symbol.Rows (name.Value values_name.Value)) ∷ (symbol.Sign sign.Comma) ∷ (symbol.Rows (name.Value values_name.Value)) ∷ (symbol.Sign sign.Comma) ∷ (symbol.Rows (name.Value values_name.Value)) ∷ (symbol.Sign sign.Colon) ∷ (symbol.Rows (name.Arith arith_name.SelectedTypes)) ∷ []
-symbols_of arith_rule.ArithCast = (symbol.Token test.Cast) ∷ (symbol.Rows (name.Value values_name.Value)) ∷ (symbol.Sign sign.Colon) ∷ (symbol.Rows (name.Type types_name.Type)) ∷ (symbol.Word key.To) ∷ (symbol.Rows (name.Type types_name.Type)) ∷ []
 symbols_of arith_rule.BoolConstant = (symbol.Token test.Bool) ∷ []
 symbols_of arith_rule.NumberConstant = (symbol.Rows (name.Value values_name.Integer)) ∷ (symbol.Sign sign.Colon) ∷ (symbol.Rows (name.Type types_name.Type)) ∷ []
 symbols_of arith_rule.DenseConstant = (symbol.Rows (name.Attribute attributes_name.Dense)) ∷ []
@@ -41,12 +34,6 @@ symbols_of arith_rule.OnlySelected = []
 symbols_of arith_rule.SelectedByVector = (symbol.Sign sign.Comma) ∷ (symbol.Rows (name.Type types_name.Type)) ∷ []
 
 abbrev pub name_of : ArithRule → Name
-name_of arith_rule.ArithConstant = name.Function functions_name.Form
-name_of arith_rule.ArithOverflowing = name.Function functions_name.Form
-name_of arith_rule.ArithBinary = name.Function functions_name.Form
-name_of arith_rule.ArithCmpi = name.Function functions_name.Form
-name_of arith_rule.ArithSelect = name.Function functions_name.Form
-name_of arith_rule.ArithCast = name.Function functions_name.Form
 name_of arith_rule.BoolConstant = name.Arith arith_name.Constant
 name_of arith_rule.NumberConstant = name.Arith arith_name.Constant
 name_of arith_rule.DenseConstant = name.Arith arith_name.Constant

@@ -19,11 +19,6 @@ use Rattle.av_tree.specs.declared.table.Rule.{Rule}
 use Rattle.av_tree.specs.declared.table.Rule.TheVariants as rule
 use Rattle.av_tree.specs.declared.table.functions.FunctionName.{FunctionName}
 use Rattle.av_tree.specs.declared.table.generic.GenericRule.TheVariants as generic_rule
-use Rattle.av_tree.specs.declared.table.arith.ArithRule.TheVariants as arith_rule
-use Rattle.av_tree.specs.declared.table.affine.AffineRule.TheVariants as affine_rule
-use Rattle.av_tree.specs.declared.table.memref.MemRefRule.TheVariants as memref_rule
-use Rattle.av_tree.specs.declared.table.scf.ScfRule.TheVariants as scf_rule
-use Rattle.av_tree.specs.declared.table.vector.VectorRule.TheVariants as vector_rule
 
 abbrev pub symbols_of : FunctionRule → List Symbol
 symbols_of functions_rule.BuiltinModule = (symbol.Word key.Module) ∷ (symbol.Rows (name.Function functions_name.OptionalSymbol)) ∷ (symbol.Rows (name.Attribute attributes_name.OptionalAttributes)) ∷ (symbol.Rows (name.Region regions_name.Region)) ∷ []
@@ -70,31 +65,5 @@ choice_of functions_name.MoreFunctionArguments _ = rule.Function functions_rule.
 choice_of functions_name.FunctionArgument _ = rule.Function functions_rule.ArgumentOfFunction
 choice_of functions_name.Form (class.Word key.Module) = rule.Function functions_rule.ModuleForm
 choice_of functions_name.Form (class.Word key.FuncFunc) = rule.Function functions_rule.FunctionForm
-choice_of functions_name.Form (class.Word key.ArithConstant) = rule.Arith arith_rule.ArithConstant
-choice_of functions_name.Form (class.Word key.Overflowing) = rule.Arith arith_rule.ArithOverflowing
-choice_of functions_name.Form (class.Word key.Binary) = rule.Arith arith_rule.ArithBinary
-choice_of functions_name.Form (class.Word key.ArithCmpi) = rule.Arith arith_rule.ArithCmpi
-choice_of functions_name.Form (class.Word key.ArithSelect) = rule.Arith arith_rule.ArithSelect
-choice_of functions_name.Form (class.Word key.Cast) = rule.Arith arith_rule.ArithCast
-choice_of functions_name.Form (class.Word key.AffineFor) = rule.Affine affine_rule.AffineFor
-choice_of functions_name.Form (class.Word key.AffineIf) = rule.Affine affine_rule.AffineIf
-choice_of functions_name.Form (class.Word key.MapOp) = rule.Affine affine_rule.AffineMapOp
-choice_of functions_name.Form (class.Word key.AffineLoad) = rule.Affine affine_rule.AffineLoad
-choice_of functions_name.Form (class.Word key.AffineStore) = rule.Affine affine_rule.AffineStore
-choice_of functions_name.Form (class.Word key.MemRefLoad) = rule.MemRef memref_rule.MemRefLoad
-choice_of functions_name.Form (class.Word key.MemRefStore) = rule.MemRef memref_rule.MemRefStore
-choice_of functions_name.Form (class.Word key.MemRefDim) = rule.MemRef memref_rule.MemRefDim
-choice_of functions_name.Form (class.Word key.ScfFor) = rule.Scf scf_rule.ScfFor
-choice_of functions_name.Form (class.Word key.VectorLoad) = rule.Vector vector_rule.VectorLoad
-choice_of functions_name.Form (class.Word key.VectorStore) = rule.Vector vector_rule.VectorStore
-choice_of functions_name.Form (class.Word key.VectorMaskedLoad) = rule.Vector vector_rule.VectorMaskedLoad
-choice_of functions_name.Form (class.Word key.VectorMaskedStore) = rule.Vector vector_rule.VectorMaskedStore
-choice_of functions_name.Form (class.Word key.VectorBroadcast) = rule.Vector vector_rule.VectorBroadcast
-choice_of functions_name.Form (class.Word key.VectorCreateMask) = rule.Vector vector_rule.VectorCreateMask
-choice_of functions_name.Form (class.Word key.VectorReduction) = rule.Vector vector_rule.VectorReduction
-choice_of functions_name.Form (class.Word key.VectorExtract) = rule.Vector vector_rule.VectorExtract
-choice_of functions_name.Form (class.Word key.VectorInsert) = rule.Vector vector_rule.VectorInsert
-choice_of functions_name.Form (class.Word key.VectorShuffle) = rule.Vector vector_rule.VectorShuffle
-choice_of functions_name.Form (class.Word key.VectorStep) = rule.Vector vector_rule.VectorStep
-choice_of functions_name.Form (class.Word key.VectorVscale) = rule.Vector vector_rule.VectorVscale
+choice_of functions_name.Form (class.Word (key.Operation n)) = rule.Operation n
 choice_of functions_name.Form _ = rule.Generic generic_rule.GenericForm

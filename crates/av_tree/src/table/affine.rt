@@ -31,16 +31,6 @@ pub enum AffineName {
 /// The rows of operations of the Affine dialect, each with its symbols.
 #[derive(Clone, Copy)]
 pub enum AffineRule {
-    /// Form: `'affine.for' ValId '=' LowerBound 'to' UpperBound OptionalStep OptionalIterArgs Region OptionalDictionary`
-    AffineFor,
-    /// Form: `'affine.if' SetUse OptionalResultTypes Region OptionalElse`
-    AffineIf,
-    /// Form: `MapOp MapUse`
-    AffineMapOp,
-    /// Form: `'affine.load' Value '[' Subscripts ']' OptionalDictionary ':' MemRef`
-    AffineLoad,
-    /// Form: `'affine.store' Value ',' Value '[' Subscripts ']' OptionalDictionary ':' MemRef`
-    AffineStore,
     /// LowerBound: `'max' MapUse`
     GreatestOf,
     /// LowerBound: `Bound`
@@ -95,51 +85,6 @@ pub(super) fn symbols(rule: AffineRule) -> &'static [Symbol]
     ensures { result.now ≡ symbols_of rule }
 {
     match rule {
-        AffineRule::AffineFor => &[
-            Symbol::Word(Keyword::AffineFor),
-            Symbol::Token(Test::ValId),
-            Symbol::Sign(Sign::Equal),
-            Symbol::Rows(Name::Affine(AffineName::LowerBound)),
-            Symbol::Word(Keyword::To),
-            Symbol::Rows(Name::Affine(AffineName::UpperBound)),
-            Symbol::Rows(Name::Affine(AffineName::OptionalStep)),
-            Symbol::Rows(Name::Affine(AffineName::OptionalIterArgs)),
-            Symbol::Rows(Name::Region(RegionName::Region)),
-            Symbol::Rows(Name::Attribute(AttributeName::OptionalDictionary)),
-        ],
-        AffineRule::AffineIf => &[
-            Symbol::Word(Keyword::AffineIf),
-            Symbol::Rows(Name::Affine(AffineName::SetUse)),
-            Symbol::Rows(Name::Type(TypeName::OptionalResultTypes)),
-            Symbol::Rows(Name::Region(RegionName::Region)),
-            Symbol::Rows(Name::Affine(AffineName::OptionalElse)),
-        ],
-        AffineRule::AffineMapOp => &[
-            Symbol::Token(Test::MapOp),
-            Symbol::Rows(Name::Affine(AffineName::MapUse)),
-        ],
-        AffineRule::AffineLoad => &[
-            Symbol::Word(Keyword::AffineLoad),
-            Symbol::Rows(Name::Value(ValueName::Value)),
-            Symbol::Sign(Sign::OpenSquare),
-            Symbol::Rows(Name::Subscript(SubscriptName::Subscripts)),
-            Symbol::Sign(Sign::CloseSquare),
-            Symbol::Rows(Name::Attribute(AttributeName::OptionalDictionary)),
-            Symbol::Sign(Sign::Colon),
-            Symbol::Rows(Name::Type(TypeName::MemRef)),
-        ],
-        AffineRule::AffineStore => &[
-            Symbol::Word(Keyword::AffineStore),
-            Symbol::Rows(Name::Value(ValueName::Value)),
-            Symbol::Sign(Sign::Comma),
-            Symbol::Rows(Name::Value(ValueName::Value)),
-            Symbol::Sign(Sign::OpenSquare),
-            Symbol::Rows(Name::Subscript(SubscriptName::Subscripts)),
-            Symbol::Sign(Sign::CloseSquare),
-            Symbol::Rows(Name::Attribute(AttributeName::OptionalDictionary)),
-            Symbol::Sign(Sign::Colon),
-            Symbol::Rows(Name::Type(TypeName::MemRef)),
-        ],
         AffineRule::GreatestOf => &[
             Symbol::Word(Keyword::Max),
             Symbol::Rows(Name::Affine(AffineName::MapUse)),
@@ -286,11 +231,6 @@ pub(super) fn need(rule: AffineRule) -> u32
 {
     match rule {
         AffineRule::MapWritten | AffineRule::SetWritten => 2,
-        AffineRule::AffineFor
-        | AffineRule::AffineIf
-        | AffineRule::AffineMapOp
-        | AffineRule::AffineLoad
-        | AffineRule::AffineStore
         | AffineRule::GreatestOf
         | AffineRule::LeastOf
         | AffineRule::MapBound

@@ -21,18 +21,6 @@ pub enum ArithName {
 /// The rows of operations of the Arith dialect, each with its symbols.
 #[derive(Clone, Copy)]
 pub enum ArithRule {
-    /// Form: `'arith.constant' Constant`
-    ArithConstant,
-    /// Form: `Overflowing Value ',' Value OptionalOverflow ':' Type`
-    ArithOverflowing,
-    /// Form: `Binary Value ',' Value ':' Type`
-    ArithBinary,
-    /// Form: `'arith.cmpi' Predicate ',' Value ',' Value ':' Type`
-    ArithCmpi,
-    /// Form: `'arith.select' Value ',' Value ',' Value ':' SelectedTypes`
-    ArithSelect,
-    /// Form: `Cast Value ':' Type 'to' Type`
-    ArithCast,
     /// Constant: `Bool`
     BoolConstant,
     /// Constant: `Integer ':' Type`
@@ -63,55 +51,6 @@ pub(super) fn symbols(rule: ArithRule) -> &'static [Symbol]
     ensures { result.now ≡ symbols_of rule }
 {
     match rule {
-        ArithRule::ArithConstant => &[
-            Symbol::Word(Keyword::ArithConstant),
-            Symbol::Rows(Name::Arith(ArithName::Constant)),
-        ],
-        ArithRule::ArithOverflowing => &[
-            Symbol::Token(Test::Overflowing),
-            Symbol::Rows(Name::Value(ValueName::Value)),
-            Symbol::Sign(Sign::Comma),
-            Symbol::Rows(Name::Value(ValueName::Value)),
-            Symbol::Rows(Name::Arith(ArithName::OptionalOverflow)),
-            Symbol::Sign(Sign::Colon),
-            Symbol::Rows(Name::Type(TypeName::Type)),
-        ],
-        ArithRule::ArithBinary => &[
-            Symbol::Token(Test::Binary),
-            Symbol::Rows(Name::Value(ValueName::Value)),
-            Symbol::Sign(Sign::Comma),
-            Symbol::Rows(Name::Value(ValueName::Value)),
-            Symbol::Sign(Sign::Colon),
-            Symbol::Rows(Name::Type(TypeName::Type)),
-        ],
-        ArithRule::ArithCmpi => &[
-            Symbol::Word(Keyword::ArithCmpi),
-            Symbol::Token(Test::Predicate),
-            Symbol::Sign(Sign::Comma),
-            Symbol::Rows(Name::Value(ValueName::Value)),
-            Symbol::Sign(Sign::Comma),
-            Symbol::Rows(Name::Value(ValueName::Value)),
-            Symbol::Sign(Sign::Colon),
-            Symbol::Rows(Name::Type(TypeName::Type)),
-        ],
-        ArithRule::ArithSelect => &[
-            Symbol::Word(Keyword::ArithSelect),
-            Symbol::Rows(Name::Value(ValueName::Value)),
-            Symbol::Sign(Sign::Comma),
-            Symbol::Rows(Name::Value(ValueName::Value)),
-            Symbol::Sign(Sign::Comma),
-            Symbol::Rows(Name::Value(ValueName::Value)),
-            Symbol::Sign(Sign::Colon),
-            Symbol::Rows(Name::Arith(ArithName::SelectedTypes)),
-        ],
-        ArithRule::ArithCast => &[
-            Symbol::Token(Test::Cast),
-            Symbol::Rows(Name::Value(ValueName::Value)),
-            Symbol::Sign(Sign::Colon),
-            Symbol::Rows(Name::Type(TypeName::Type)),
-            Symbol::Word(Keyword::To),
-            Symbol::Rows(Name::Type(TypeName::Type)),
-        ],
         ArithRule::BoolConstant => &[Symbol::Token(Test::Bool)],
         ArithRule::NumberConstant => &[
             Symbol::Rows(Name::Value(ValueName::Integer)),

@@ -6,8 +6,7 @@ ghost use Rattle.av_tree.specs.Needs.{need_of};
 ghost use Rattle.av_tree.specs.Table.{name_of};
 
 use super::{
-    AffineRule, ArithRule, AttributeName, Class, GenericRule, Keyword, MemRefRule, Name,
-    RegionName, Rule, ScfRule, Symbol, Test, TypeName, VectorRule,
+    AttributeName, Class, GenericRule, Keyword, Name, RegionName, Rule, Symbol, Test, TypeName,
 };
 use av_lex::Sign;
 
@@ -129,33 +128,7 @@ pub(super) fn choose(name: FunctionName, class: Class) -> Rule
         FunctionName::Form => match class {
             Class::Word(Keyword::Module) => Rule::Function(FunctionRule::ModuleForm),
             Class::Word(Keyword::FuncFunc) => Rule::Function(FunctionRule::FunctionForm),
-            Class::Word(Keyword::ArithConstant) => Rule::Arith(ArithRule::ArithConstant),
-            Class::Word(Keyword::Overflowing) => Rule::Arith(ArithRule::ArithOverflowing),
-            Class::Word(Keyword::Binary) => Rule::Arith(ArithRule::ArithBinary),
-            Class::Word(Keyword::ArithCmpi) => Rule::Arith(ArithRule::ArithCmpi),
-            Class::Word(Keyword::ArithSelect) => Rule::Arith(ArithRule::ArithSelect),
-            Class::Word(Keyword::Cast) => Rule::Arith(ArithRule::ArithCast),
-            Class::Word(Keyword::AffineFor) => Rule::Affine(AffineRule::AffineFor),
-            Class::Word(Keyword::AffineIf) => Rule::Affine(AffineRule::AffineIf),
-            Class::Word(Keyword::MapOp) => Rule::Affine(AffineRule::AffineMapOp),
-            Class::Word(Keyword::AffineLoad) => Rule::Affine(AffineRule::AffineLoad),
-            Class::Word(Keyword::AffineStore) => Rule::Affine(AffineRule::AffineStore),
-            Class::Word(Keyword::MemRefLoad) => Rule::MemRef(MemRefRule::MemRefLoad),
-            Class::Word(Keyword::MemRefStore) => Rule::MemRef(MemRefRule::MemRefStore),
-            Class::Word(Keyword::MemRefDim) => Rule::MemRef(MemRefRule::MemRefDim),
-            Class::Word(Keyword::ScfFor) => Rule::Scf(ScfRule::ScfFor),
-            Class::Word(Keyword::VectorLoad) => Rule::Vector(VectorRule::VectorLoad),
-            Class::Word(Keyword::VectorStore) => Rule::Vector(VectorRule::VectorStore),
-            Class::Word(Keyword::VectorMaskedLoad) => Rule::Vector(VectorRule::VectorMaskedLoad),
-            Class::Word(Keyword::VectorMaskedStore) => Rule::Vector(VectorRule::VectorMaskedStore),
-            Class::Word(Keyword::VectorBroadcast) => Rule::Vector(VectorRule::VectorBroadcast),
-            Class::Word(Keyword::VectorCreateMask) => Rule::Vector(VectorRule::VectorCreateMask),
-            Class::Word(Keyword::VectorReduction) => Rule::Vector(VectorRule::VectorReduction),
-            Class::Word(Keyword::VectorExtract) => Rule::Vector(VectorRule::VectorExtract),
-            Class::Word(Keyword::VectorInsert) => Rule::Vector(VectorRule::VectorInsert),
-            Class::Word(Keyword::VectorShuffle) => Rule::Vector(VectorRule::VectorShuffle),
-            Class::Word(Keyword::VectorStep) => Rule::Vector(VectorRule::VectorStep),
-            Class::Word(Keyword::VectorVscale) => Rule::Vector(VectorRule::VectorVscale),
+            Class::Word(Keyword::Operation(number)) => Rule::Operation(number),
             _ => Rule::Generic(GenericRule::GenericForm),
         },
     }

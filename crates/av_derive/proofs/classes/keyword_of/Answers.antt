@@ -22,20 +22,8 @@ returns-in-6 c = c.keyword_of_six.ensures ∙ found-within 6 6 keywords _ (omega
 pub returns-in-7-to-9 : goal.returns-in-7-to-9
 returns-in-7-to-9 c = c.keyword_to_nine.ensures ∙ found-within 7 9 keywords _ (omega arith) (omega arith)
 
-pub returns-in-10 : goal.returns-in-10
-returns-in-10 c = c.keyword_of_ten.ensures ∙ found-within 10 10 keywords _ (omega arith) (omega arith)
-
-pub returns-in-11 : goal.returns-in-11
-returns-in-11 c = c.keyword_of_eleven.ensures ∙ found-within 11 11 keywords _ (omega arith) (omega arith)
-
-pub returns-in-12-to-13 : goal.returns-in-12-to-13
-returns-in-12-to-13 c = c.keyword_to_thirteen.ensures ∙ found-within 12 13 keywords _ (omega arith) (omega arith)
-
-pub returns-in-14-to-15 : goal.returns-in-14-to-15
-returns-in-14-to-15 c = c.keyword_to_fifteen.ensures ∙ found-within 14 15 keywords _ (omega arith) (omega arith)
-
-pub returns-in-16-to-18 : goal.returns-in-16-to-18
-returns-in-16-to-18 c = c.keyword_to_eighteen.ensures ∙ found-within 16 18 keywords _ (omega arith) (omega arith)
+pub returns-in-10-to-13 : goal.returns-in-10-to-13
+returns-in-10-to-13 c = c.keyword_to_thirteen.ensures ∙ found-within 10 13 keywords _ (omega arith) (omega arith)
 
 pub returns-in_default : goal.returns-in_default
 returns-in_default c = none-longer _ (omega arith)

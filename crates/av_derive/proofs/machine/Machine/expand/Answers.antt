@@ -5,7 +5,7 @@ use Rattle.std.proofs.lemmas.List.{append-nil}
 use Rattle.av_tree.specs.declared.table.Symbol.TheVariants as symbol
 use Rattle.av_tree.specs.Table.{symbols_of, choice_of}
 use Rattle.av_derive.specs.Derivation.{WithinBrackets}
-use Rattle.av_derive.proofs.Steps.{stack-row, counted-row, counted-bound, next_off}
+use Rattle.av_derive.proofs.Steps.{stack-lighter, stack-row, counted-row, counted-bound, next_off}
 use Rattle.av_derive.proofs.Refusals.{row-step, row-doomed}
 use Rattle.av_derive.proofs.Deep.{stack-room, earlier-row, flag-row, fresh-flag, earlier-more, row-barren, low}
 use Rattle.av_derive.proofs.machine.Machine.expand.Goals as goal
@@ -38,7 +38,7 @@ loop-symbol-preserved c =
     let e = c.in_ok-enter-in-Rows.ensures in
     let within : WithinBrackets old.limits.brackets 0 (take c.args.at c.args.classes.now) = rw kept.limits c.requires.brackets in
     let popped : old.stack.items ≡ c.pop.new.self.items ++ symbol.Rows c.in-Rows.name ∷ [] = rw c.in-Rows.is at c.in-Some.ensures.items in
-    let pushed : new.stack.items ≡ c.pop.new.self.items ++ reverse (symbols_of c.choose-rule.result) = cc (e.stack, c.in_ok-push_row-in-Rows.ensures, ap reverse c.symbols.ensures.value) in
+    let pushed : new.stack.items ≡ c.pop.new.self.items ++ reverse (symbols_of c.choose-rule.result) = cc (e.stack, c.in_ok-push_symbols-in-Rows.ensures.value) in
     let chose : choice_of c.in-Rows.name c.ahead-class.result ≡ c.choose-rule.result = sym c.choose-rule.ensures.choice in
     let step = row-step _ _ _ new.events.items _ _ _ new.stack.items _ _ popped c.choose-rule.ensures.name pushed e.events chose kept.only kept.told in
     record {
@@ -64,6 +64,13 @@ loop-symbol-preserved c =
       flag = rw e.events (flag-row old.counted new.counted c.args.at c.choose-rule.result old.events.items e.flag kept.flag);
       depth = e.brackets ∙ kept.depth;
     }
+
+pub loop-symbol-smaller : goal.loop-symbol-smaller
+loop-symbol-smaller c =
+    let e = c.in_ok-enter-in-Rows.ensures in
+    let popped : c.loop-symbol.self.stack.items ≡ c.pop.new.self.items ++ symbol.Rows c.in-Rows.name ∷ [] = rw c.in-Rows.is at c.in-Some.ensures.items in
+    let pushed : c.enter.new.self.stack.items ≡ c.pop.new.self.items ++ reverse (symbols_of c.choose-rule.result) = cc (e.stack, c.in_ok-push_symbols-in-Rows.ensures.value) in
+    stack-lighter c.choose-rule.result c.in-Rows.name _ _ _ c.push_symbols.ensures.lighter popped c.choose-rule.ensures.name pushed
 
 pub returns-in-Sign : goal.returns-in-Sign
 returns-in-Sign c =

@@ -1,0 +1,9 @@
+use Rattle.av_operations.specs.Taking.{item_taken}
+use Rattle.av_operations.proofs.Items.{one-taken}
+use Rattle.av_operations.proofs.gifts.numbers.Goals as goal
+
+pub returns-clause-ok : goal.returns-clause-ok
+unfolding item_taken
+returns-clause-ok c =
+    one-taken _ _ _ _ _ _ c.in_ok-numbers.ensures.ok
+    (rw (c.in_ok-gift.ensures.ok, c.as_bytes.ensures.value, c.property.ensures, c.in_ok-value.ensures.ok, c.in_order.ensures))

@@ -1,0 +1,54 @@
+-- The small trees with operations of arith are taken and refused as is said.
+use Rattle.std.proofs.Common.{refl}
+use Rattle.av_affine.specs.Finding.{bound_found}
+use Rattle.av_affine.specs.Limits.{has_parameter, node_count}
+use Rattle.av_affine.specs.Values.{value_of}
+use Rattle.av_affine_laws.specs.Normalised.{parameters}
+use Rattle.av_tree.specs.declared.written.ExprText.TheBlock.{shape-the_row-ExprText-0, hidden-the_row-ExprText-0}
+use Rattle.av_affine.specs.declared.expression.Expr.TheBlock.{shape-the_row-Expr-0, hidden-the_row-Expr-0}
+use denote.Hole.Carrier.{hidden}
+use Rattle.av_maps.specs.Asked.{has_own}
+use Rattle.av_maps.specs.Written.{expr_of}
+use Rattle.av_dialects.specs.Rows.{kinds, predicates}
+use Rattle.av_signatures.specs.Rows.{dropped, dropped_of_functions}
+use Rattle.av_rules.specs.Agreement.{types_in, types_in_items, types_in_entries}
+use Rattle.av_rules.specs.Constants.{nest_of, nests_of}
+use Rattle.av_rules.specs.ScalarExamples.{ScalarExamples, Binary, Comparisons, Selections, AllCasts, Extensions, Truncations, IndexCasts, ConstantTypes}
+use Rattle.av_rules.specs.Rows.{is_of_scalar_mode, rows}
+use Rattle.av_rules.specs.Sites.{operations_in, operations_in_bodies, operations_within, operations_in_nodes, sites_from}
+use Rattle.av_rules.specs.Views.{fields, bodies_in, inside, nodes_in, function_in, types_listed}
+
+binary : Binary
+unfolding rows is_of_scalar_mode dropped dropped_of_functions kinds predicates fields bodies_in inside nodes_in function_in types_listed operations_in operations_in_bodies operations_within operations_in_nodes sites_from types_in types_in_items types_in_entries nest_of nests_of has_own expr_of bound_found has_parameter node_count value_of parameters shape-the_row-ExprText-0 hidden-the_row-ExprText-0 shape-the_row-Expr-0 hidden-the_row-Expr-0 hidden
+binary = (refl, refl, refl, refl, refl, refl)
+
+comparisons : Comparisons
+unfolding rows is_of_scalar_mode dropped dropped_of_functions kinds predicates fields bodies_in inside nodes_in function_in types_listed operations_in operations_in_bodies operations_within operations_in_nodes sites_from types_in types_in_items types_in_entries nest_of nests_of has_own expr_of bound_found has_parameter node_count value_of parameters shape-the_row-ExprText-0 hidden-the_row-ExprText-0 shape-the_row-Expr-0 hidden-the_row-Expr-0 hidden
+comparisons = (refl, refl, refl, refl, refl, refl, refl)
+
+selections : Selections
+unfolding rows is_of_scalar_mode dropped dropped_of_functions kinds predicates fields bodies_in inside nodes_in function_in types_listed operations_in operations_in_bodies operations_within operations_in_nodes sites_from types_in types_in_items types_in_entries nest_of nests_of has_own expr_of bound_found has_parameter node_count value_of parameters shape-the_row-ExprText-0 hidden-the_row-ExprText-0 shape-the_row-Expr-0 hidden-the_row-Expr-0 hidden
+selections = (refl, refl, refl)
+
+all-casts : AllCasts
+unfolding rows is_of_scalar_mode dropped dropped_of_functions kinds predicates fields bodies_in inside nodes_in function_in types_listed operations_in operations_in_bodies operations_within operations_in_nodes sites_from types_in types_in_items types_in_entries nest_of nests_of has_own expr_of bound_found has_parameter node_count value_of parameters shape-the_row-ExprText-0 hidden-the_row-ExprText-0 shape-the_row-Expr-0 hidden-the_row-Expr-0 hidden
+all-casts = (refl, refl)
+
+extensions : Extensions
+unfolding rows is_of_scalar_mode dropped dropped_of_functions kinds predicates fields bodies_in inside nodes_in function_in types_listed operations_in operations_in_bodies operations_within operations_in_nodes sites_from types_in types_in_items types_in_entries nest_of nests_of has_own expr_of bound_found has_parameter node_count value_of parameters shape-the_row-ExprText-0 hidden-the_row-ExprText-0 shape-the_row-Expr-0 hidden-the_row-Expr-0 hidden
+extensions = (refl, refl, refl, refl)
+
+truncations : Truncations
+unfolding rows is_of_scalar_mode dropped dropped_of_functions kinds predicates fields bodies_in inside nodes_in function_in types_listed operations_in operations_in_bodies operations_within operations_in_nodes sites_from types_in types_in_items types_in_entries nest_of nests_of has_own expr_of bound_found has_parameter node_count value_of parameters shape-the_row-ExprText-0 hidden-the_row-ExprText-0 shape-the_row-Expr-0 hidden-the_row-Expr-0 hidden
+truncations = (refl, refl, refl, refl)
+
+index-casts : IndexCasts
+unfolding rows is_of_scalar_mode dropped dropped_of_functions kinds predicates fields bodies_in inside nodes_in function_in types_listed operations_in operations_in_bodies operations_within operations_in_nodes sites_from types_in types_in_items types_in_entries nest_of nests_of has_own expr_of bound_found has_parameter node_count value_of parameters shape-the_row-ExprText-0 hidden-the_row-ExprText-0 shape-the_row-Expr-0 hidden-the_row-Expr-0 hidden
+index-casts = (refl, refl, refl, refl)
+
+constant-types : ConstantTypes
+unfolding rows is_of_scalar_mode dropped dropped_of_functions kinds predicates fields bodies_in inside nodes_in function_in types_listed operations_in operations_in_bodies operations_within operations_in_nodes sites_from types_in types_in_items types_in_entries nest_of nests_of has_own expr_of bound_found has_parameter node_count value_of parameters shape-the_row-ExprText-0 hidden-the_row-ExprText-0 shape-the_row-Expr-0 hidden-the_row-Expr-0 hidden
+constant-types = (refl, refl, refl, refl, refl, refl)
+
+pub scalar-examples : ScalarExamples
+scalar-examples = (binary, comparisons, selections, all-casts, extensions, truncations, index-casts, constant-types)

@@ -1,0 +1,50 @@
+-- The small trees with operations that make vectors or take them apart are taken and refused as is said.
+use Rattle.std.proofs.Common.{refl}
+use Rattle.av_affine.specs.Finding.{bound_found}
+use Rattle.av_affine.specs.Limits.{has_parameter, node_count}
+use Rattle.av_affine.specs.Values.{value_of}
+use Rattle.av_affine_laws.specs.Normalised.{parameters}
+use Rattle.av_tree.specs.declared.written.ExprText.TheBlock.{shape-the_row-ExprText-0, hidden-the_row-ExprText-0}
+use Rattle.av_affine.specs.declared.expression.Expr.TheBlock.{shape-the_row-Expr-0, hidden-the_row-Expr-0}
+use denote.Hole.Carrier.{hidden}
+use Rattle.av_maps.specs.Asked.{has_own}
+use Rattle.av_maps.specs.Written.{expr_of}
+use Rattle.av_dialects.specs.Rows.{kinds, predicates}
+use Rattle.av_signatures.specs.Rows.{dropped, dropped_of_functions}
+use Rattle.av_rules.specs.Agreement.{types_in, types_in_items, types_in_entries}
+use Rattle.av_rules.specs.Constants.{nest_of, nests_of}
+use Rattle.av_rules.specs.VectorExamples.{VectorExamples, Broadcasts, Masks, ManyReductions, Extracts, Inserts, Shuffles, Counting}
+use Rattle.av_rules.specs.Rows.{is_of_scalar_mode, rows}
+use Rattle.av_rules.specs.Sites.{operations_in, operations_in_bodies, operations_within, operations_in_nodes, sites_from}
+use Rattle.av_rules.specs.Views.{fields, bodies_in, inside, nodes_in, function_in, types_listed}
+
+broadcasts : Broadcasts
+unfolding rows is_of_scalar_mode dropped dropped_of_functions kinds predicates fields bodies_in inside nodes_in function_in types_listed operations_in operations_in_bodies operations_within operations_in_nodes sites_from types_in types_in_items types_in_entries nest_of nests_of has_own expr_of bound_found has_parameter node_count value_of parameters shape-the_row-ExprText-0 hidden-the_row-ExprText-0 shape-the_row-Expr-0 hidden-the_row-Expr-0 hidden
+broadcasts = (refl, refl, refl, refl, refl, refl, refl, refl, refl)
+
+masks : Masks
+unfolding rows is_of_scalar_mode dropped dropped_of_functions kinds predicates fields bodies_in inside nodes_in function_in types_listed operations_in operations_in_bodies operations_within operations_in_nodes sites_from types_in types_in_items types_in_entries nest_of nests_of has_own expr_of bound_found has_parameter node_count value_of parameters shape-the_row-ExprText-0 hidden-the_row-ExprText-0 shape-the_row-Expr-0 hidden-the_row-Expr-0 hidden
+masks = (refl, refl, refl, refl, refl, refl, refl)
+
+many-reductions : ManyReductions
+unfolding rows is_of_scalar_mode dropped dropped_of_functions kinds predicates fields bodies_in inside nodes_in function_in types_listed operations_in operations_in_bodies operations_within operations_in_nodes sites_from types_in types_in_items types_in_entries nest_of nests_of has_own expr_of bound_found has_parameter node_count value_of parameters shape-the_row-ExprText-0 hidden-the_row-ExprText-0 shape-the_row-Expr-0 hidden-the_row-Expr-0 hidden
+many-reductions = (refl, refl, refl, refl, refl, refl, refl)
+
+extracts : Extracts
+unfolding rows is_of_scalar_mode dropped dropped_of_functions kinds predicates fields bodies_in inside nodes_in function_in types_listed operations_in operations_in_bodies operations_within operations_in_nodes sites_from types_in types_in_items types_in_entries nest_of nests_of has_own expr_of bound_found has_parameter node_count value_of parameters shape-the_row-ExprText-0 hidden-the_row-ExprText-0 shape-the_row-Expr-0 hidden-the_row-Expr-0 hidden
+extracts = (refl, refl, refl, refl, refl, refl, refl, refl, refl, refl, refl, refl)
+
+inserts : Inserts
+unfolding rows is_of_scalar_mode dropped dropped_of_functions kinds predicates fields bodies_in inside nodes_in function_in types_listed operations_in operations_in_bodies operations_within operations_in_nodes sites_from types_in types_in_items types_in_entries nest_of nests_of has_own expr_of bound_found has_parameter node_count value_of parameters shape-the_row-ExprText-0 hidden-the_row-ExprText-0 shape-the_row-Expr-0 hidden-the_row-Expr-0 hidden
+inserts = (refl, refl, refl, refl, refl, refl, refl, refl, refl, refl)
+
+shuffles : Shuffles
+unfolding rows is_of_scalar_mode dropped dropped_of_functions kinds predicates fields bodies_in inside nodes_in function_in types_listed operations_in operations_in_bodies operations_within operations_in_nodes sites_from types_in types_in_items types_in_entries nest_of nests_of has_own expr_of bound_found has_parameter node_count value_of parameters shape-the_row-ExprText-0 hidden-the_row-ExprText-0 shape-the_row-Expr-0 hidden-the_row-Expr-0 hidden
+shuffles = (refl, refl, refl, refl, refl, refl, refl, refl)
+
+counting : Counting
+unfolding rows is_of_scalar_mode dropped dropped_of_functions kinds predicates fields bodies_in inside nodes_in function_in types_listed operations_in operations_in_bodies operations_within operations_in_nodes sites_from types_in types_in_items types_in_entries nest_of nests_of has_own expr_of bound_found has_parameter node_count value_of parameters shape-the_row-ExprText-0 hidden-the_row-ExprText-0 shape-the_row-Expr-0 hidden-the_row-Expr-0 hidden
+counting = (refl, refl, refl, refl)
+
+pub vector-examples : VectorExamples
+vector-examples = (broadcasts, masks, many-reductions, extracts, inserts, shuffles, counting)
